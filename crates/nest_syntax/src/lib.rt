@@ -1,0 +1,13 @@
+//! The tree of a nest: what a parser gives, and what everything above reads.
+//!
+//! No function here does more than make or convert a value. `specs/` holds the meaning of a tree: words,
+//! values, the turn of an iteration, the course of a program and its outcome.
+#![tactic(auto)]
+
+mod names;
+mod operators;
+mod tree;
+
+pub use names::{Line, Name, NoMemory, TaskName};
+pub use operators::{Bin, Cause, Op, Un};
+pub use tree::{Arm, Decl, Expr, Loop, Program, Stmt};
