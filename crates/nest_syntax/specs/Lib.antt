@@ -1,0 +1,5 @@
+pub mod Words
+pub mod Arrays
+pub mod Value
+pub mod Turn
+pub mod Reads
