@@ -29,6 +29,7 @@ pub fn value_in_turn(low: i64, step: u64, k: u64) -> i64
     low.wrapping_add_unsigned(k * step)
 }
 
+#[tactic(auto, using(crate::proofs::Counts::div_ceil_is))]
 fn count_below(low: i64, high: i64, step: u64) -> Result<u64, Cause>
     requires { 0 < step }
     ensures count { result ≡ counted (turns low high step false) }
