@@ -12,3 +12,6 @@ pub use memory::Words;
 pub use nest_syntax::Cause;
 pub use operations::{apply, apply_un, assign};
 pub use turns::{count_turns, value_in_turn};
+
+#[cfg(test)]
+mod tests;

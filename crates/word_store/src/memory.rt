@@ -1,6 +1,6 @@
 ghost use Rattle.std.specs.Prelude.{◌≡◌, ℕ, ◌+◌, ◌<◌, ◌≤◌, ◌↔◌, IsTrue, IsSome, IfOk, IfSome, length, sum, slice_index, is_some};
 ghost use Rattle.nest_syntax.specs.Arrays.{place_in, place_of};
-ghost use Rattle.word_store.specs.Memory.{IsSound, zeros, number_at, loaded, stored, array_words};
+ghost use Rattle.word_store.specs.Memory.{IsSound, most_words, zeros, number_at, loaded, stored, array_words};
 
 use nest_syntax::NoMemory;
 use std::alloc::Global;
@@ -27,9 +27,9 @@ impl Model for Words {
 }
 
 impl Words {
-    /// Arrays of these lengths, with 0 in each word.
+    /// Arrays of these lengths, with 0 in each word. All lengths together are at most 1,048,576.
     pub fn zeros(alloc: Global, lengths: &[u64]) -> Result<Words, NoMemory>
-        requires { sum lengths.now ≤ 1048576 }
+        requires { sum lengths.now ≤ most_words }
         ensures { IfOk result (λ made. made ≡ zeros lengths.now) }
     {
         let mut starts = Vec::with_capacity(alloc, lengths.len())?;

@@ -14,10 +14,10 @@ pub fn apply(op: Bin, left: i64, right: i64) -> Result<i64, Cause>
         Bin::Add => Ok(left.wrapping_add(right)),
         Bin::Sub => Ok(left.wrapping_sub(right)),
         Bin::Mul => Ok(left.wrapping_mul(right)),
-        Bin::Div => divided(left, right),
-        Bin::Rem => rest_of_division(left, right),
-        Bin::Shl => Ok(shifted_up(left, right)),
-        Bin::Shr => Ok(shifted_down(left, right)),
+        Bin::Div => divide(left, right),
+        Bin::Rem => remainder(left, right),
+        Bin::Shl => Ok(shift_left(left, right)),
+        Bin::Shr => Ok(shift_right(left, right)),
         Bin::And => Ok(left & right),
         Bin::Xor => Ok(left ^ right),
         Bin::Or => Ok(left | right),
@@ -68,7 +68,7 @@ fn flag(holds: bool) -> i64
     if holds { 1 } else { 0 }
 }
 
-fn divided(left: i64, right: i64) -> Result<i64, Cause>
+fn divide(left: i64, right: i64) -> Result<i64, Cause>
     ensures { result ≡ word.quotient left right }
 {
     if right == 0 {
@@ -77,7 +77,7 @@ fn divided(left: i64, right: i64) -> Result<i64, Cause>
     Ok(left.wrapping_div(right))
 }
 
-fn rest_of_division(left: i64, right: i64) -> Result<i64, Cause>
+fn remainder(left: i64, right: i64) -> Result<i64, Cause>
     ensures { result ≡ word.remainder left right }
 {
     if right == 0 {
@@ -92,13 +92,13 @@ fn shift_count(by: i64) -> u32
     by.rem_euclid(64) as u32
 }
 
-fn shifted_up(left: i64, by: i64) -> i64
+fn shift_left(left: i64, by: i64) -> i64
     ensures { word.apply Bin.Shl left by ≡ Ok result }
 {
     left.wrapping_shl(shift_count(by))
 }
 
-fn shifted_down(left: i64, by: i64) -> i64
+fn shift_right(left: i64, by: i64) -> i64
     ensures { word.apply Bin.Shr left by ≡ Ok result }
 {
     left.wrapping_shr(shift_count(by))

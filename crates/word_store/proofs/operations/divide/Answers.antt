@@ -2,7 +2,7 @@ use Rattle.std.proofs.Common.{rules, arith, ◌≡◌, ◌∙◌, w64, FitsSigne
 use Rattle.std.proofs.lemmas.Int.{to_z-of_z}
 use Rattle.std.specs.Int.{int_wrap}
 use Rattle.word_store.proofs.Wrapping.{int_wrap-int_div}
-use Rattle.word_store.proofs.operations.divided.Goals as goal
+use Rattle.word_store.proofs.operations.divide.Goals as goal
 
 pub returns : goal.returns
 returns c =

@@ -3,7 +3,7 @@ use Rattle.std.proofs.lemmas.Int.{to_z-of_z}
 use Rattle.std.specs.Int.{int_shl}
 use Rattle.nest_syntax.specs.Words as word
 use Rattle.word_store.proofs.Wrapping.{int_wrap-int_shl}
-use Rattle.word_store.proofs.operations.shifted_up.Goals as goal
+use Rattle.word_store.proofs.operations.shift_left.Goals as goal
 
 pub returns : goal.returns
 returns c =
