@@ -3,3 +3,5 @@ pub mod Arrays
 pub mod Value
 pub mod Turn
 pub mod Reads
+pub mod Course
+pub mod Outcome
