@@ -51,7 +51,8 @@ pub fn take_all<S: Source>(alloc: Global, source: &mut S) -> Result<Vec<u8>, Tak
         if count == 0 {
             return Ok(bytes);
         }
-        if bytes.len() + count > MOST_BYTES {
+        let taken = bytes.len() + count;
+        if taken > MOST_BYTES {
             return Err(TakeFault::TooLong);
         }
         let Ok(()) = bytes.extend_from_slice(&piece[..count]) else {

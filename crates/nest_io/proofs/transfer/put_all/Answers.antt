@@ -1,3 +1,4 @@
+-- A write keeps what the loop keeps: it takes the next bytes of those that are left to write.
 use Rattle.std.proofs.Common.{◌-◌, ◌+◌, ◌≤◌, ℕ, List, Option, length, take, drop, arith, ◌∙◌, subst}
 use Rattle.std.proofs.Math.Seq.{take-add}
 use Rattle.std.proofs.lemmas.Grind.{common_steps}
