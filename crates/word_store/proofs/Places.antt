@@ -1,8 +1,11 @@
 -- Words in a list of words, and the numbers of places. For the crates above.
-use Rattle.std.proofs.Common.{◌≡◌, ◌≢◌, ℕ, zero, suc, ◌+◌, ◌<◌, ◌≤◌, ℤ, pos, List, [], ◌∷◌, length, take, sum, get_or, refl, ap, arith}
+use Rattle.std.proofs.Common.{◌≡◌, ◌≢◌, ℕ, zero, suc, ◌+◌, ◌<◌, ◌≤◌, ℤ, pos, negsuc, Option, Some, None, nat_lt, if◌then◌else◌, FitsSigned, w64, List, [], ◌∷◌, length, take, sum, get_or, refl, ap, ◌∙◌, arith}
+use Rattle.std.specs.Option.{option_map_or}
 use Rattle.std.proofs.lemmas.List.{get_or-set_same, get_or-set_other, get_or-take, length-set, set-set, take-take, length-take-le, ext_get_or}
+use Rattle.std.proofs.lemmas.Bool.Decides.{nat_tests}
 use Rattle.std.proofs.lemmas.List.Sums.{sum_by_more_le}
-use Rattle.nest_syntax.specs.Arrays.{word_number, word_at, with_word}
+use Rattle.nest_syntax.specs.Arrays.{place_in, word_number, word_at, with_word}
+use Rattle.word_store.specs.Memory.{Memory, IsSound, number_at, stored}
 
 -- a word that was written is read
 pub word_at-with_word_same : (words : List ℤ) (n : ℕ) (value : ℤ) → n < length words → word_at (with_word words n value) n ≡ value
@@ -54,3 +57,32 @@ word_number-same sizes array place array' place' there there' inside inside' e =
     let arrays : array ≡ array' = omega arith in
     let starts : sum (take array sizes) ≡ sum (take array' sizes) = ap (λ n. sum (take n sizes)) arrays in
     (arrays, omega arith)
+
+place_in_tested : (size at place : ℕ) → (if nat_lt at size then Some at else None) ≡ Some place → (place < size) × (pos at ≡ pos place)
+place_in_tested size at place e = grind (arith, nat_tests)
+
+-- a place of an array is below its size, and is the subscript
+pub place_in-inside : (size : ℕ) (at : ℤ) (place : ℕ) → place_in size at ≡ Some place → (place < size) × (at ≡ pos place)
+place_in-inside size (pos at) place e = place_in_tested size at place e
+place_in-inside size (negsuc below) place e = cc
+
+-- words stay words where a word is written
+pub words-with_word : (words : List ℤ) (n m : ℕ) (value : ℤ) → ((k : ℕ) → FitsSigned w64 (word_at words k)) → FitsSigned w64 value → FitsSigned w64 (word_at (with_word words n value) m)
+words-with_word [] n m value each fits = each m
+words-with_word (word ∷ words) zero zero value each fits = fits
+words-with_word (word ∷ words) zero (suc m) value each fits = each (suc m)
+words-with_word (word ∷ words) (suc n) zero value each fits = each zero
+words-with_word (word ∷ words) (suc n) (suc m) value each fits = words-with_word words n m value (λ k. each (suc k)) fits
+
+IsSound-with_word : (memory : Memory) (number : Option ℕ) (value : ℤ) → IsSound memory → FitsSigned w64 value
+    → IsSound (option_map_or (λ n. record memory { words = with_word memory.words n value }) number memory)
+IsSound-with_word memory None value sound fits = sound
+IsSound-with_word memory (Some n) value sound fits = record {
+  as_many = length-set memory.words n value ∙ sound.as_many;
+  few = sound.few;
+  each = λ m. words-with_word memory.words n m value sound.each fits;
+}
+
+-- a memory stays sound where a word is written
+pub IsSound-stored : (memory : Memory) (array : ℕ) (at value : ℤ) → IsSound memory → FitsSigned w64 value → IsSound (stored memory array at value)
+IsSound-stored memory array at value sound fits = IsSound-with_word memory (number_at memory.sizes array at) value sound fits

@@ -23,7 +23,7 @@ impl Model for Words {
 
     ghost view = { λ w. record { sizes = w.sizes.items; words = w.words.items } };
 
-    ghost invariant = { λ w. IsLaidOut w.sizes.items w.starts.items w.words.items };
+    ghost invariant = { λ w. IsLaidOut (record { sizes = w.sizes.items; words = w.words.items }) w.starts.items };
 }
 
 impl Words {
