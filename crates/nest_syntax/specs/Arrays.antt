@@ -1,6 +1,6 @@
 -- The arrays of a program and their words. The words of all arrays are one list, one array after another in the order
 -- of declaration, and a word's number counts from 0 over all of them.
-use Rattle.std.specs.Prelude.{ℕ, zero, suc, ◌+◌, ℤ, pos, negsuc, Bool, false, if◌then◌else◌, Option, Some, None, List, [], ◌∷◌, map, take, sum, slice_index_or, slice_set, nat_lt, ◌==◌}
+use Rattle.std.specs.Prelude.{ℕ, zero, suc, ◌+◌, ℤ, pos, negsuc, Bool, true, false, if◌then◌else◌, Option, Some, None, List, [], ◌∷◌, map, take, sum, slice_index_or, slice_set, nat_lt, ◌==◌}
 use Rattle.std.specs.Option.{option_map, option_and_then}
 use Rattle.nest_syntax.specs.declared.tree.Decl.{Decl}
 use Rattle.nest_syntax.specs.declared.tree.Decl.TheVariants as decl

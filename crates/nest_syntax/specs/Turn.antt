@@ -1,7 +1,7 @@
 -- What one iteration does. A turn is a tree: each node is the next thing done, and behind a Load stands one subtree
 -- for each word that may be read. It is the one place where the order of evaluation, the tests of subscripts, the
 -- traps with their lines, the pure operations and the points where a worker may be interrupted (Go) are said.
-use Rattle.std.specs.Prelude.{ℕ, zero, suc, ℤ, pos, if◌then◌else◌, Option, Some, None, Result, Ok, Err, List, [], ◌∷◌, map}
+use Rattle.std.specs.Prelude.{ℕ, zero, suc, ◌+◌, ℤ, pos, Bool, true, false, if◌then◌else◌, Option, Some, None, Result, Ok, Err, List, [], ◌∷◌, map}
 use Rattle.nest_syntax.specs.declared.names.Line.{Line}
 use Rattle.nest_syntax.specs.declared.operators.Bin.{Bin}
 use Rattle.nest_syntax.specs.declared.operators.Bin.TheVariants as bin
@@ -13,7 +13,7 @@ use Rattle.nest_syntax.specs.declared.tree.Expr.TheFolds.{fold-Expr}
 use Rattle.nest_syntax.specs.declared.tree.Stmt.{Stmt}
 use Rattle.nest_syntax.specs.declared.tree.Stmt.TheOpen.{Stmt-F, Arm-F, Loop-F}
 use Rattle.nest_syntax.specs.declared.tree.Stmt.TheFolds.{fold-Stmt}
-use Rattle.nest_syntax.specs.Words.{is_zero, truth, apply, apply_un, operation_of, turns, counted, variable}
+use Rattle.nest_syntax.specs.Words.{is_zero, truth, apply, apply_un, operation_of, assigned, turns, counted, variable}
 use Rattle.nest_syntax.specs.Arrays.{Array, located}
 use Rattle.nest_syntax.specs.Value.{scalar_at, with_scalar}
 

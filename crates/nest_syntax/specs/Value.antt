@@ -1,6 +1,6 @@
 -- The value of an expression, from the values of the scalars (one for each name of the program) and the words of the
 -- arrays. Operands are evaluated from left to right; `&&`, `||` and `?:` evaluate only what they need.
-use Rattle.std.specs.Prelude.{ℕ, ℤ, pos, Bool, true, false, ◌||◌, if◌then◌else◌, Result, Ok, Err, List, slice_index_or, slice_set}
+use Rattle.std.specs.Prelude.{ℕ, ℤ, pos, Bool, true, false, ◌||◌, if◌then◌else◌, Option, Some, None, Result, Ok, Err, List, slice_index_or, slice_set}
 use Rattle.std.specs.Option.{option_map_or}
 use Rattle.nest_syntax.specs.declared.operators.Bin.{Bin}
 use Rattle.nest_syntax.specs.declared.operators.Bin.TheVariants as bin

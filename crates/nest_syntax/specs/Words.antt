@@ -1,6 +1,6 @@
 -- Words and their operations. A word is a whole number of 64 bits with its sign, from -2^63 to 2^63 - 1. Results
 -- wrap: of the numbers that differ from the true result by a multiple of 2^64, the one that is a word.
-use Rattle.std.specs.Prelude.{ℕ, ◌+◌, ◌-◌, ◌*◌, ◌/◌, ◌^◌, ℤ, pos, ◌+ℤ◌, ◌-ℤ◌, ◌*ℤ◌, neg_ℤ, Bool, true, false, not, if◌then◌else◌, ◌&&◌, ◌||◌, Option, Some, None, Result, Ok, Err, nat_le, int_lt, int_le, int_div, unsigned_abs}
+use Rattle.std.specs.Prelude.{◌≡◌, ℕ, zero, suc, ◌+◌, ◌-◌, ◌*◌, ◌/◌, ◌^◌, ℤ, pos, negsuc, ◌+ℤ◌, ◌-ℤ◌, ◌*ℤ◌, neg_ℤ, Bool, true, false, not, if◌then◌else◌, ◌&&◌, ◌||◌, Option, Some, None, Result, Ok, Err, nat_le, int_lt, int_le, int_div, unsigned_abs}
 use Rattle.std.specs.Int.{w64, int_wrap, int_gap, int_bit_and, int_bit_or, int_bit_xor, int_bit_not, int_div_euclid, int_rem_euclid}
 use Rattle.std.specs.Ordering.{int_eq}
 use Rattle.nest_syntax.specs.declared.operators.Un.{Un}
