@@ -1,0 +1,4 @@
+//! The parser: bytes or tokens come in, the program that they spell goes out.
+#![tactic(auto)]
+
+mod cursor;
