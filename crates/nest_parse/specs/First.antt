@@ -27,8 +27,8 @@ token kind spot = record { kind = kind; spot = spot }
 -- The tokens begin with tokens of these kinds, wherever they stand, and then the rest follows.
 pub data Begins : List Token → List Kind → List Token → Type 0 where
   no_more : {rest : List Token} → Begins rest [] rest
-  one_more : {kind : Kind} {spot : Spot} {tokens rest : List Token} {kinds : List Kind}
-      → Begins tokens kinds rest → Begins (token kind spot ∷ tokens) (kind ∷ kinds) rest
+  one_more : {next : Token} {kind : Kind} {tokens rest : List Token} {kinds : List Kind}
+      → next.kind ≡ kind → Begins tokens kinds rest → Begins (next ∷ tokens) (kind ∷ kinds) rest
 
 -- the line of the first token
 abbrev pub line_of : List Token → Line

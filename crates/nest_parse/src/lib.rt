@@ -2,3 +2,7 @@
 #![tactic(auto)]
 
 mod cursor;
+mod kinds;
+mod refused;
+
+pub use refused::FirstRefused;
