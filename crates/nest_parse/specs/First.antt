@@ -71,31 +71,39 @@ mutual
         → operator_of kind ≡ Some (depth, op) → IsLevel depth part tokens right middle
         → IsTail depth part (expr.Binary op left right) middle e rest → IsTail depth part left (token kind spot ∷ tokens) e rest
 
--- `for (long NAME = LOW; NAME < HIGH; NAME++) {`, on the line of `for`
+-- `for (long NAME = LOW; NAME < HIGH; NAME++) {`
+abbrev pub header_kinds : (name low high : ℕ) → List Kind
+header_kinds name low high =
+    Keyword word.For ∷ Mark mark.OpenRound ∷ Keyword word.Long ∷ Name name ∷ Mark mark.Assign ∷ Number low ∷ Mark mark.Semicolon
+    ∷ Name name ∷ Mark mark.Less ∷ Number high ∷ Mark mark.Semicolon
+    ∷ Name name ∷ Mark mark.Increment ∷ Mark mark.CloseRound ∷ Mark mark.OpenCurly ∷ []
+
+-- `long ARRAY[LENGTH];`
+abbrev pub declaration_kinds : (array length : ℕ) → List Kind
+declaration_kinds array length =
+    Keyword word.Long ∷ Name array ∷ Mark mark.OpenSquare ∷ Number length ∷ Mark mark.CloseSquare ∷ Mark mark.Semicolon ∷ []
+
+-- A header is on the line of its `for`.
 pub record IsHeader (tokens : List Token) (turns : Turns) (rest : List Token) : Type 0 where
   pub line : turns.line ≡ line_of tokens
-  pub spelled : Begins tokens
-      (Keyword word.For ∷ Mark mark.OpenRound ∷ Keyword word.Long ∷ Name turns.name ∷ Mark mark.Assign ∷ Number turns.low ∷ Mark mark.Semicolon
-        ∷ Name turns.name ∷ Mark mark.Less ∷ Number turns.high ∷ Mark mark.Semicolon
-        ∷ Name turns.name ∷ Mark mark.Increment ∷ Mark mark.CloseRound ∷ Mark mark.OpenCurly ∷ []) rest
+  pub spelled : Begins tokens (header_kinds turns.name turns.low turns.high) rest
 
--- `long ARRAY[LENGTH];`, on the line of `long`
-pub record IsDeclaration (tokens : List Token) (first : First) (rest : List Token) : Type 0 where
-  pub line : first.line ≡ line_of tokens
-  pub spelled : Begins tokens
-      (Keyword word.Long ∷ Name first.array ∷ Mark mark.OpenSquare ∷ Number first.length ∷ Mark mark.CloseSquare ∷ Mark mark.Semicolon ∷ []) rest
+-- The declaration is on the line of its `long`.
+pub record IsDeclaration (tokens : List Token) (line : Line) (array length : ℕ) (rest : List Token) : Type 0 where
+  pub on : line ≡ line_of tokens
+  pub spelled : Begins tokens (declaration_kinds array length) rest
 
 -- `ARRAY[PLACE] = VALUE;`, on the line of the array's name
-pub record IsWrite (tokens : List Token) (first : First) (rest : List Token) : Type 0 where
-  pub line : first.write_line ≡ line_of tokens
+pub record IsWrite (tokens : List Token) (line : Line) (array : ℕ) (place value : Expr) (rest : List Token) : Type 0 where
+  pub on : line ≡ line_of tokens
   pub from_place : List Token
   pub behind_place : List Token
   pub from_value : List Token
   pub behind_value : List Token
-  pub target : Begins tokens (Name first.array ∷ Mark mark.OpenSquare ∷ []) from_place
-  pub place : IsLevel sums Place from_place first.place behind_place
+  pub target : Begins tokens (Name array ∷ Mark mark.OpenSquare ∷ []) from_place
+  pub is_place : IsLevel sums Place from_place place behind_place
   pub assign : Begins behind_place (Mark mark.CloseSquare ∷ Mark mark.Assign ∷ []) from_value
-  pub value : IsLevel sums Value from_value first.value behind_value
+  pub is_value : IsLevel sums Value from_value value behind_value
   pub end : Begins behind_value (Mark mark.Semicolon ∷ []) rest
 
 -- the tokens, all of them: the declaration, the two headers, the write, and the two brackets that close
@@ -104,10 +112,10 @@ pub record AreFirst (tokens : List Token) (first : First) : Type 0 where
   pub from_inner : List Token
   pub from_write : List Token
   pub from_end : List Token
-  pub declaration : IsDeclaration tokens first from_outer
+  pub declaration : IsDeclaration tokens first.line first.array first.length from_outer
   pub outer : IsHeader from_outer first.outer from_inner
   pub inner : IsHeader from_inner first.inner from_write
-  pub write : IsWrite from_write first from_end
+  pub write : IsWrite from_write first.write_line first.array first.place first.value from_end
   pub end : Begins from_end (Mark mark.CloseCurly ∷ Mark mark.CloseCurly ∷ []) []
 
 -- The tokens spell the program. The names in a header's test and step are that header's name, the name of the write

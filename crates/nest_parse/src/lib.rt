@@ -2,7 +2,9 @@
 #![tactic(auto)]
 
 mod cursor;
+mod expression;
 mod kinds;
 mod refused;
+mod text;
 
 pub use refused::FirstRefused;
