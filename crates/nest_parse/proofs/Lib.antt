@@ -1,3 +1,4 @@
 pub mod Passes
 pub mod Joins
 pub mod Operands
+pub mod Parts

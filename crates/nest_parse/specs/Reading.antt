@@ -1,15 +1,16 @@
 -- What the functions of the parser read: only what the grammar has, and each time it is there.
-use Rattle.std.specs.Prelude.{◌≡◌, ℕ, ◌≤◌, pos, Bool, true, false, not, ◌&&◌, nat_le, Option, Some, None, option_map, Result, IfOk, MatchResult, MatchOption, List, [], ◌∷◌, length, slice_get, ⊤}
+use Rattle.std.specs.Prelude.{◌≡◌, ◌≢◌, ℕ, ◌≤◌, pos, Bool, true, false, not, ◌&&◌, nat_le, is_some, Option, Some, None, option_map, Result, IfOk, MatchResult, MatchOption, List, [], ◌∷◌, length, slice_get, ⊤}
 use Rattle.nest_syntax.specs.declared.operators.Bin.{Bin}
 use Rattle.nest_syntax.specs.declared.tree.Expr.{Expr}
 use Rattle.nest_syntax.specs.declared.tree.Expr.TheVariants as expr
-use Rattle.nest_syntax.specs.FirstForm.{First, Turns}
+use Rattle.nest_syntax.specs.FirstForm.{First, Turns, greatest_bound, is_allowed}
 use Rattle.nest_lex.specs.declared.token.Spot.{Spot}
 use Rattle.nest_lex.specs.declared.token.Mark.TheVariants as mark
 use Rattle.nest_lex.specs.declared.token.Kind.{Kind}
 use Rattle.nest_lex.specs.declared.token.Kind.TheVariants.{Name, Number, Keyword, Mark}
 use Rattle.nest_lex.specs.declared.token.Token.{Token}
 use Rattle.nest_parse.specs.declared.cursor.Part.{Part}
+use Rattle.nest_parse.specs.declared.cursor.Part.TheVariants.{Place, Value}
 use Rattle.nest_parse.specs.declared.text.Declaration.{Declaration}
 use Rattle.nest_parse.specs.declared.text.Header.{Header}
 use Rattle.nest_parse.specs.declared.text.Write.{Write}
@@ -101,3 +102,30 @@ Writes array tokens write rest = IsWrite tokens write.line array write.place wri
 
 abbrev pub Nests : List Token → Nest → List Token → Type 0
 Nests tokens nest rest = AreFirst tokens (first_of nest) × (rest ≡ [])
+
+-- Whether words may stand in a part.
+abbrev pub has_words : Part → Bool
+has_words Place = false
+has_words Value = true
+
+abbrev pub is_operator : Token → Bool
+is_operator next = is_some (operator_of next.kind)
+
+-- The conditions of the first form, in groups, besides that on the count of operators.
+pub record AreDifferent (array outer inner : ℕ) : Type 0 where
+  pub array_outer : array ≢ outer
+  pub array_inner : array ≢ inner
+  pub outer_inner : outer ≢ inner
+
+pub record AreWithin (turns : Turns) : Type 0 where
+  pub low_within : turns.low ≤ greatest_bound
+  pub high_within : turns.high ≤ greatest_bound
+
+pub record IsFitting (first : First) : Type 0 where
+  pub names : AreDifferent first.array first.outer.name first.inner.name
+  pub some_words : 1 ≤ first.length
+  pub few_words : first.length ≤ 1048576
+  pub outer : AreWithin first.outer
+  pub inner : AreWithin first.inner
+  pub place : is_allowed first.array first.outer.name first.inner.name first.place false ≡ true
+  pub value : is_allowed first.array first.outer.name first.inner.name first.value true ≡ true

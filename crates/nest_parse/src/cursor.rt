@@ -145,7 +145,7 @@ impl<'a> Cursor<'a> {
 }
 
 /// The depth and the meaning of an operator: products bind tighter than sums.
-fn operator_of(kind: Kind) -> Option<(usize, Bin)>
+pub(crate) fn operator_of(kind: Kind) -> Option<(usize, Bin)>
     ensures { result ≡ operator_of kind }
 {
     match kind {

@@ -3,6 +3,7 @@
 
 mod cursor;
 mod expression;
+mod form;
 mod kinds;
 mod refused;
 mod text;
