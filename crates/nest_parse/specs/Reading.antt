@@ -1,5 +1,5 @@
 -- What the functions of the parser read: only what the grammar has, and each time it is there.
-use Rattle.std.specs.Prelude.{◌≡◌, ◌≢◌, ℕ, ◌≤◌, pos, Bool, true, false, not, ◌&&◌, nat_le, is_some, Option, Some, None, option_map, Result, IfOk, MatchResult, MatchOption, List, [], ◌∷◌, length, slice_get, ⊤}
+use Rattle.std.specs.Prelude.{◌≡◌, ◌≢◌, ℕ, ◌≤◌, pos, Bool, true, false, not, ◌&&◌, nat_le, is_some, Option, Some, None, option_map, Result, IfOk, MatchResult, MatchOption, List, [], ◌∷◌, length, count_by, slice_get, ⊤}
 use Rattle.nest_syntax.specs.declared.operators.Bin.{Bin}
 use Rattle.nest_syntax.specs.declared.tree.Expr.{Expr}
 use Rattle.nest_syntax.specs.declared.tree.Expr.TheVariants as expr
@@ -9,6 +9,9 @@ use Rattle.nest_lex.specs.declared.token.Mark.TheVariants as mark
 use Rattle.nest_lex.specs.declared.token.Kind.{Kind}
 use Rattle.nest_lex.specs.declared.token.Kind.TheVariants.{Name, Number, Keyword, Mark}
 use Rattle.nest_lex.specs.declared.token.Token.{Token}
+use Rattle.nest_lex.specs.declared.token.Tokens.{Tokens}
+use Rattle.nest_lex.specs.Named.{AreWellNamed}
+use Rattle.nest_lex.specs.Text.{AreTokens}
 use Rattle.nest_parse.specs.declared.cursor.Part.{Part}
 use Rattle.nest_parse.specs.declared.cursor.Part.TheVariants.{Place, Value}
 use Rattle.nest_parse.specs.declared.text.Declaration.{Declaration}
@@ -129,3 +132,14 @@ pub record IsFitting (first : First) : Type 0 where
   pub inner : AreWithin first.inner
   pub place : is_allowed first.array first.outer.name first.inner.name first.place false ≡ true
   pub value : is_allowed first.array first.outer.name first.inner.name first.value true ≡ true
+
+-- The tokens of a text are read, unless there is no memory.
+pub record ReadsTokens (text : List ℕ) (result : Result Tokens FirstRefused) : Type 0 where
+  pub ok : IfOk result (λ tokens. AreTokens text tokens × AreWellNamed tokens)
+  pub only : (tokens : Tokens) → AreTokens text tokens → MatchResult result (λ read. read ≡ tokens) (λ e. e ≡ NoMemory)
+
+-- What the tokens spell is read, if it keeps the conditions, unless there is no memory.
+pub record ReadsNest (tokens : List Token) (result : Result Nest FirstRefused) : Type 0 where
+  pub ok : IfOk result (λ nest. AreFirst tokens (first_of nest) × IsFitting (first_of nest) × (count_by is_operator tokens ≤ 12))
+  pub only : (nest : Nest) → AreFirst tokens (first_of nest) → IsFitting (first_of nest) → count_by is_operator tokens ≤ 12
+      → MatchResult result (λ read. read ≡ nest) (λ e. e ≡ NoMemory)

@@ -1,5 +1,5 @@
 //! The conditions on a program of the first form.
-ghost use Rattle.std.specs.Prelude.{◌≡◌, ◌↔◌, ◌≢◌, IsTrue, nat_le, count_by};
+ghost use Rattle.std.specs.Prelude.{◌≡◌, ◌↔◌, ◌≢◌, ◌≤◌, IsTrue, count_by};
 ghost use Rattle.nest_syntax.specs.FirstForm.{is_arithmetic, is_allowed};
 ghost use Rattle.nest_parse.specs.Reading.{has_words, is_operator, IsFitting, AreDifferent, AreWithin, first_of, turns_of};
 
@@ -63,11 +63,24 @@ fn is_within(header: Header) -> bool
     header.low <= GREATEST_BOUND && header.high <= GREATEST_BOUND
 }
 
+fn is_operator(token: Token) -> bool
+    ensures { result ≡ is_operator token }
+{
+    operator_of(token.kind).is_some()
+}
+
+/// How many operators a text has.
+fn operators(tokens: &[Token]) -> usize
+    ensures { result ≡ count_by is_operator tokens.now }
+{
+    tokens.iter().filter(|token| is_operator(**token)).count()
+}
+
 /// Whether a text has no more operators than one of the first form may have.
 pub(crate) fn has_few_operators(tokens: &[Token]) -> bool
-    ensures { result ≡ nat_le (count_by is_operator tokens.now) 12 }
+    ensures { IsTrue result ↔ (count_by is_operator tokens.now ≤ 12) }
 {
-    tokens.iter().filter(|token| operator_of(token.kind).is_some()).count() <= MOST_OPERATORS
+    operators(tokens) <= MOST_OPERATORS
 }
 
 /// Whether a nest keeps the conditions, besides that on the count of operators.
