@@ -1,0 +1,5 @@
+pub mod Passes
+pub mod Joins
+pub mod Operands
+pub mod Parts
+pub mod EndLines
