@@ -6,8 +6,10 @@
 
 mod names;
 mod operators;
+mod place;
 mod tree;
 
 pub use names::{Line, Name, NoMemory, TaskName};
 pub use operators::{Bin, Cause, Op, Un};
+pub use place::Place;
 pub use tree::{Arm, Decl, Expr, Loop, Program, Stmt};
