@@ -1,6 +1,11 @@
 //! Tokens and parts of the input: bytes come in, a list of tokens with their places goes out.
 #![tactic(auto)]
 
+mod parts;
+mod piece;
+mod refused;
 mod token;
 
+pub use parts::Parts;
+pub use refused::LexKind;
 pub use token::{Keyword, Kind, Mark, Spot, Token, Tokens};
