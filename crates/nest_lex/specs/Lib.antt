@@ -5,3 +5,4 @@ pub mod Pieces
 pub mod Load
 pub mod Text
 pub mod Parts
+pub mod Scans

@@ -4,6 +4,8 @@
 mod parts;
 mod piece;
 mod refused;
+mod scan;
+mod spelling;
 mod token;
 
 pub use parts::Parts;
