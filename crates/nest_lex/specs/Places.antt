@@ -1,11 +1,11 @@
 -- Places of a text as lines and columns.
-use Rattle.std.specs.Prelude.{ℕ, ◌+◌, List, ◌==◌, not, count_by, reverse, length, take, take_while}
+use Rattle.std.specs.Prelude.{ℕ, ◌+◌, List, Bool, ◌==◌, not, count_by, take}
+use Rattle.std.specs.List.{suffix_len}
 use Rattle.nest_lex.specs.declared.token.Spot.{Spot}
 
--- what stands in front, back to the last line feed or the start
-abbrev pub last_line : List ℕ → List ℕ
-last_line front = take_while (λ b. not (b == 10)) (reverse front)
+abbrev pub is_line_feed : ℕ → Bool
+is_line_feed b = b == 10
 
--- The line is one more than the line feeds in front, the column one more than the bytes since the last of them.
+-- The line is one more than the line feeds in front, the column one more than the bytes behind the last of them.
 abbrev pub spot_of : List ℕ → ℕ → Spot
-spot_of text at = let front = take at text in record { line = count_by (λ b. b == 10) front + 1; column = length (last_line front) + 1 }
+spot_of text at = record { line = count_by is_line_feed (take at text) + 1; column = suffix_len (λ b. not (is_line_feed b)) (take at text) + 1 }

@@ -1,8 +1,10 @@
 //! Tokens and parts of the input: bytes come in, a list of tokens with their places goes out.
 #![tactic(auto)]
 
+mod number;
 mod parts;
 mod piece;
+mod place;
 mod refused;
 mod scan;
 mod spelling;
