@@ -6,3 +6,4 @@ pub mod Load
 pub mod Text
 pub mod Parts
 pub mod Scans
+pub mod Found

@@ -49,6 +49,7 @@ MayBeFollowed _ byte = Unit {0}
 -- The bytes from `start` up to `next` spell the piece, and no longer front of the rest spells any. A comment comes
 -- before the mark `/`.
 pub record Stands (text : List ℕ) (p : Piece) (start next : ℕ) : Type 0 where
+  pub some : start < next
   pub within : next ≤ length text
   pub no_line : OpensLine text start → ⊥
   pub no_block : OpensBlock text start → ⊥

@@ -1,6 +1,7 @@
 //! Tokens and parts of the input: bytes come in, a list of tokens with their places goes out.
 #![tactic(auto)]
 
+mod found;
 mod number;
 mod parts;
 mod piece;
