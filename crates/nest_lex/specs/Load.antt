@@ -1,5 +1,6 @@
 -- The two bounds on what stands together in a text.
 use Rattle.std.specs.Prelude.{ℕ, ◌+◌, ◌-◌, ◌≤◌}
+use Rattle.nest_lex.specs.declared.load.Load.{Load}
 use Rattle.nest_lex.specs.declared.token.Mark.{Mark}
 use Rattle.nest_lex.specs.declared.token.Mark.TheVariants as mark
 use Rattle.nest_lex.specs.declared.piece.Piece.{Piece}
@@ -22,11 +23,7 @@ run_by n mark.OpenCurly = 0
 run_by n mark.CloseCurly = 0
 run_by n _ = n + 1
 
--- the brackets that are open, and the tokens since the last of `;`, `{`, `}` or the start
-pub record Load : Type 0 where
-  pub opened : ℕ
-  pub run : ℕ
-
+-- `Load` holds the brackets that are open, and the tokens since the last of `;`, `{`, `}` or the start
 abbrev pub no_load : Load
 no_load = record { opened = 0; run = 0 }
 

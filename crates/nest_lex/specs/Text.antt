@@ -5,7 +5,8 @@ use Rattle.std.specs.Str.{bytes_eq}
 use Rattle.nest_lex.specs.Bytes.{is_digit, is_blank}
 use Rattle.nest_lex.specs.Places.{spot_of}
 use Rattle.nest_lex.specs.Pieces.{OpensLine, OpensBlock, ClosesBlock, Gaps, Stands}
-use Rattle.nest_lex.specs.Load.{Load, no_load, load_after, IsAllowed}
+use Rattle.nest_lex.specs.Load.{no_load, load_after, IsAllowed}
+use Rattle.nest_lex.specs.declared.load.Load.{Load}
 use Rattle.nest_lex.specs.declared.piece.Piece.{Piece}
 use Rattle.nest_lex.specs.declared.piece.Piece.TheVariants as piece
 use Rattle.nest_lex.specs.declared.token.Kind.{Kind}
@@ -15,6 +16,8 @@ use Rattle.nest_lex.specs.declared.token.Token.{Token}
 use Rattle.nest_lex.specs.declared.token.Tokens.{Tokens}
 use Rattle.nest_lex.specs.declared.refused.LexKind.{LexKind}
 use Rattle.nest_lex.specs.declared.refused.LexKind.TheVariants.{Byte, Number, Comment, Dense}
+use Rattle.nest_lex.specs.declared.refused.LexRefused.{LexRefused}
+use Rattle.nest_lex.specs.declared.refused.LexRefused.TheVariants.{Fault, NoMemory}
 
 -- a piece that stands in the text from `start` up to `next`
 pub record Lexeme : Type 0 where
@@ -114,3 +117,8 @@ pub record IsFault (text : List ℕ) (fault : LexKind) (spot : Spot) : Type 0 wh
   pub place : ℕ
   pub read : Reads text 0 no_load lexemes (Faulty fault place)
   pub at : spot ≡ spot_of text place
+
+-- a refusal tells the first fault, or that there was no memory
+abbrev pub IsRefusal : List ℕ → LexRefused → Type 0
+IsRefusal text (Fault fault spot) = IsFault text fault spot
+IsRefusal text NoMemory = Unit {0}

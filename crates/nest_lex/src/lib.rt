@@ -2,6 +2,7 @@
 #![tactic(auto)]
 
 mod found;
+mod load;
 mod number;
 mod parts;
 mod piece;
@@ -12,5 +13,5 @@ mod spelling;
 mod token;
 
 pub use parts::Parts;
-pub use refused::LexKind;
+pub use refused::{LexKind, LexRefused};
 pub use token::{Keyword, Kind, Mark, Spot, Token, Tokens};
