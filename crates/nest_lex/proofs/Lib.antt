@@ -4,3 +4,4 @@ pub mod Ranges
 pub mod Spots
 pub mod Tables
 pub mod Words
+pub mod Numbering

@@ -3,6 +3,7 @@
 
 mod found;
 mod load;
+mod names;
 mod number;
 mod parts;
 mod piece;
