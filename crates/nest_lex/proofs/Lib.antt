@@ -5,3 +5,6 @@ pub mod Spots
 pub mod Tables
 pub mod Words
 pub mod Numbering
+pub mod Reading
+pub mod OneReading
+pub mod Written

@@ -5,7 +5,7 @@ use Rattle.std.proofs.lemmas.List.Edits.{get_or-between, length-between}
 use Rattle.std.proofs.lemmas.List.Folds.{list_all_at}
 use Rattle.std.proofs.lemmas.Bool.{false≢true}
 use Rattle.std.proofs.lemmas.Bool.Decides.{nat_tests}
-use Rattle.nest_lex.specs.Bytes.{is_letter, is_digit, is_word_byte}
+use Rattle.nest_lex.specs.Bytes.{is_letter, is_digit, is_word_byte, is_blank}
 
 pub length-range : (text : List ℕ) (start next : ℕ) → next ≤ length text → length (slice_range text start next) ≡ next - start
 length-range text start next within = length-between text start next within
@@ -57,3 +57,6 @@ all_from_places p text start next within each =
     all_from p (slice_range text start next) (λ k below.
     let inside : start + k < next = omega (arith, length-range text start next within) in
     ap p (get_or-between text start next k 0 inside) ∙ each (start + k) (omega arith) inside)
+
+pub blank_no_word : (b : ℕ) → is_blank b ≡ true → is_word_byte b ≡ false
+blank_no_word b blank = grind (arith, nat_tests)

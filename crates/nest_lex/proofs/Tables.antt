@@ -1,7 +1,7 @@
 -- Facts of each keyword and each mark.
 use Rattle.std.proofs.Common.{◌≡◌, ℕ, ◌-◌, ◌≤◌, Bool, true, false, List, length, take, refl, arith, slice_index}
 use Rattle.std.specs.List.{list_all}
-use Rattle.nest_lex.specs.Bytes.{is_word_byte, is_digit}
+use Rattle.nest_lex.specs.Bytes.{is_word_byte, is_digit, is_blank}
 use Rattle.nest_lex.specs.Spelling.{keyword_text, mark_text}
 use Rattle.nest_lex.specs.declared.token.Keyword.{Keyword}
 use Rattle.nest_lex.specs.declared.token.Keyword.TheVariants as keyword
@@ -171,6 +171,50 @@ mark_begins mark.Not = refl
 mark_begins mark.Flip = refl
 mark_begins mark.Increment = refl
 mark_begins mark.Decrement = refl
+
+pub mark_no_blank : (m : Mark) → is_blank (slice_index (mark_text m) 0) ≡ false
+mark_no_blank mark.OpenRound = refl
+mark_no_blank mark.CloseRound = refl
+mark_no_blank mark.OpenSquare = refl
+mark_no_blank mark.CloseSquare = refl
+mark_no_blank mark.OpenCurly = refl
+mark_no_blank mark.CloseCurly = refl
+mark_no_blank mark.Semicolon = refl
+mark_no_blank mark.Question = refl
+mark_no_blank mark.Colon = refl
+mark_no_blank mark.Assign = refl
+mark_no_blank mark.PlusAssign = refl
+mark_no_blank mark.MinusAssign = refl
+mark_no_blank mark.TimesAssign = refl
+mark_no_blank mark.DivideAssign = refl
+mark_no_blank mark.RemainderAssign = refl
+mark_no_blank mark.ShiftLeftAssign = refl
+mark_no_blank mark.ShiftRightAssign = refl
+mark_no_blank mark.AndAssign = refl
+mark_no_blank mark.XorAssign = refl
+mark_no_blank mark.OrAssign = refl
+mark_no_blank mark.OrOr = refl
+mark_no_blank mark.AndAnd = refl
+mark_no_blank mark.Or = refl
+mark_no_blank mark.Xor = refl
+mark_no_blank mark.And = refl
+mark_no_blank mark.Equal = refl
+mark_no_blank mark.NotEqual = refl
+mark_no_blank mark.Less = refl
+mark_no_blank mark.LessEqual = refl
+mark_no_blank mark.More = refl
+mark_no_blank mark.MoreEqual = refl
+mark_no_blank mark.ShiftLeft = refl
+mark_no_blank mark.ShiftRight = refl
+mark_no_blank mark.Plus = refl
+mark_no_blank mark.Minus = refl
+mark_no_blank mark.Times = refl
+mark_no_blank mark.Divide = refl
+mark_no_blank mark.Remainder = refl
+mark_no_blank mark.Not = refl
+mark_no_blank mark.Flip = refl
+mark_no_blank mark.Increment = refl
+mark_no_blank mark.Decrement = refl
 
 pub mark_some : (m : Mark) → 1 ≤ length (mark_text m)
 mark_some mark.OpenRound = omega arith

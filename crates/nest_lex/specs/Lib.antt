@@ -7,3 +7,4 @@ pub mod Text
 pub mod Parts
 pub mod Scans
 pub mod Found
+pub mod Reader

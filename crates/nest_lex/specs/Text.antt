@@ -83,13 +83,14 @@ bytes_of text lexeme = slice_range text lexeme.start lexeme.next
 abbrev pub with_name : List (List ℕ) → List ℕ → List (List ℕ)
 with_name names name = if list_any (bytes_eq name) names then names else names ++ name ∷ []
 
--- the names after this lexeme
-abbrev pub with_names_of : List ℕ → List (List ℕ) → Lexeme → List (List ℕ)
-with_names_of text names lexeme = elim lexeme.is [ piece.Name ↦ with_name names (bytes_of text lexeme) | _ ↦ names ]
+-- the names after these bytes, which are this piece
+abbrev pub names_with : List (List ℕ) → List ℕ → Piece → List (List ℕ)
+names_with names bytes piece.Name = with_name names bytes
+names_with names bytes _ = names
 
 -- the names among lexemes, each once, in the order of their first appearance
 abbrev pub names_of : List ℕ → List Lexeme → List (List ℕ)
-names_of text lexemes = fold (with_names_of text) [] lexemes
+names_of text lexemes = fold (λ names lexeme. names_with names (bytes_of text lexeme) lexeme.is) [] lexemes
 
 -- a name's number is its place among the names
 abbrev pub kind_of : List (List ℕ) → List ℕ → Piece → Kind
