@@ -8,3 +8,5 @@ pub mod Numbering
 pub mod Reading
 pub mod OneReading
 pub mod Written
+pub mod OneAnswer
+pub mod WellNamed

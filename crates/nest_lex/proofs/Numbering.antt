@@ -58,7 +58,7 @@ module _ {X : Type 0} (p : X → Bool) where
       by false e rest = first_fails x (xs ++ ys) e ∙ ap (λ n. 1 + n) (rest (sym (any_fails x xs e) ∙ some)) ∙ sym (first_fails x xs e)
 
 pub number_seen : (name : List ℕ) (names : List (List ℕ)) (keys : List (Bor (List ℕ))) → names ≡ map (λ k. k.now) keys
-  → position_or_len (λ (k : Bor (List ℕ)). bytes_eq name k.now) keys ≡ position_or_len (bytes_eq name) names
+    → position_or_len (λ (k : Bor (List ℕ)). bytes_eq name k.now) keys ≡ position_or_len (bytes_eq name) names
 number_seen name names keys same =
     sym (prefix_len-map (λ n. not (bytes_eq name n)) (λ (k : Bor (List ℕ)). k.now) keys) ∙ ap (position_or_len (bytes_eq name)) (sym same)
 
@@ -82,7 +82,7 @@ any-map p h (x ∷ xs) = ap (λ b. p (h x) || b) (any-map p h xs)
 
 -- the keys of the set of names, after one is inserted
 pub keys_after : (name : Bor (List ℕ)) (names : List (List ℕ)) (keys after : List (Bor (List ℕ))) → names ≡ map (λ k. k.now) keys
-  → after ≡ (if list_any (λ (k : Bor (List ℕ)). bytes_eq name.now k.now) keys then keys else keys ++ name ∷ []) → with_name names name.now ≡ map (λ k. k.now) after
+    → after ≡ (if list_any (λ (k : Bor (List ℕ)). bytes_eq name.now k.now) keys then keys else keys ++ name ∷ []) → with_name names name.now ≡ map (λ k. k.now) after
 keys_after name names keys after same inserted = by (list_any (λ (k : Bor (List ℕ)). bytes_eq name.now k.now) keys) refl
   where
     by : (b : Bool) → list_any (λ (k : Bor (List ℕ)). bytes_eq name.now k.now) keys ≡ b → with_name names name.now ≡ map (λ k. k.now) after
@@ -102,7 +102,7 @@ place-le p xs = by (list_any p xs) refl
     by true e = let f = place_present p xs e in omega arith
     by false e = let f = place_absent p xs e in omega arith
 
-same_bytes : (name : List ℕ) → bytes_eq name name ≡ true
+pub same_bytes : (name : List ℕ) → bytes_eq name name ≡ true
 same_bytes [] = refl
 same_bytes (b ∷ bs) = ap (λ c. c && bytes_eq bs bs) (eq-eqb b b refl) ∙ same_bytes bs
 

@@ -50,10 +50,12 @@ one_piece (piece.Mark m) (piece.Mark o) bytes a b = ap piece.Mark (one_mark m o 
 -- the longest piece at a place ends at one place
 one_end : (text : List ℕ) (at next next' : ℕ) (p q : Piece) → Stands text p at next → Stands text q at next' → next ≡ next'
 one_end text at next next' p q a b = elim (cases_lt next next') [
-    inl less ↦ absurd (a.longest q next' less b.within b.spelled)
+  | inl less ↦ absurd (a.longest q next' less b.within b.spelled)
   | inr least ↦ elim (cases_lt next' next) [
-      inl more ↦ absurd (b.longest p next more a.within a.spelled)
-    | inr most ↦ omega arith ] ]
+    | inl more ↦ absurd (b.longest p next more a.within a.spelled)
+    | inr most ↦ omega arith
+  ]
+]
 
 one_standing : (text : List ℕ) (at next next' : ℕ) (p q : Piece) → Stands text p at next → Stands text q at next' → p ≡ q
 one_standing text at next next' p q a b =
@@ -63,17 +65,21 @@ one_standing text at next next' p q a b =
 -- a gap ends at one place
 one_line_end : (text : List ℕ) (from to to' : ℕ) → IsLineEnd text from to → IsLineEnd text from to' → to ≡ to'
 one_line_end text from to to' a b = elim (cases_lt to to') [
-    inl less ↦ absurd (b.none_before to a.ordered less (a.ends (omega (arith, b.within))))
+  | inl less ↦ absurd (b.none_before to a.ordered less (a.ends (omega (arith, b.within))))
   | inr least ↦ elim (cases_lt to' to) [
-      inl more ↦ absurd (a.none_before to' b.ordered more (b.ends (omega (arith, a.within))))
-    | inr most ↦ omega arith ] ]
+    | inl more ↦ absurd (a.none_before to' b.ordered more (b.ends (omega (arith, a.within))))
+    | inr most ↦ omega arith
+  ]
+]
 
 one_block_end : (text : List ℕ) (from to to' : ℕ) → IsBlockEnd text from to → IsBlockEnd text from to' → to ≡ to'
 one_block_end text from to to' a b = elim (cases_lt to to') [
-    inl less ↦ absurd (b.none_before (to - 2) (omega (arith, a.ordered)) (omega (arith, a.ordered)) (a.closes (to - 2) (omega (arith, a.ordered))))
+  | inl less ↦ absurd (b.none_before (to - 2) (omega (arith, a.ordered)) (omega (arith, a.ordered)) (a.closes (to - 2) (omega (arith, a.ordered))))
   | inr least ↦ elim (cases_lt to' to) [
-      inl more ↦ absurd (a.none_before (to' - 2) (omega (arith, b.ordered)) (omega (arith, b.ordered)) (b.closes (to' - 2) (omega (arith, b.ordered))))
-    | inr most ↦ omega arith ] ]
+    | inl more ↦ absurd (a.none_before (to' - 2) (omega (arith, b.ordered)) (omega (arith, b.ordered)) (b.closes (to' - 2) (omega (arith, b.ordered))))
+    | inr most ↦ omega arith
+  ]
+]
 
 blank_no_slash : (b : ℕ) → is_blank b ≡ true → b ≡ 47 → ⊥
 blank_no_slash b blank slash = absurd (false≢true (sym (ap is_blank slash) ∙ blank))
@@ -209,7 +215,7 @@ end_no_piece text load at next (Faulty fault.Dense q) p ends stands allowed =
     ends.1.too_much (subst (λ (is : Piece). IsAllowed (load_after load is)) (one_standing text at next ends.1.next p ends.1.is stands ends.1.stands) allowed)
 
 end_or_piece : (text : List ℕ) (load : Load) (at stop start next : ℕ) (gaps gaps' : List ℕ) (e : Ending) (p : Piece) → Gaps text at gaps stop → EndsAt text load stop e
-  → Gaps text at gaps' start → Stands text p start next → IsAllowed (load_after load p) → ⊥
+    → Gaps text at gaps' start → Stands text p start next → IsAllowed (load_after load p) → ⊥
 end_or_piece text load at stop start next gaps gaps' e p a ends b stands allowed =
     let same : stop ≡ start = one_stop text at stop start gaps gaps' a (clear_end text load stop e ends) b (clear_piece text p start next stands) in
     end_no_piece text load start next e p (subst (λ (n : ℕ). EndsAt text load n e) same ends) stands allowed
@@ -222,13 +228,13 @@ one_reading text at load [] (l ∷ ls) e e' a b = absurd (end_or_piece text load
 one_reading text at load (l ∷ ls) [] e e' a b = absurd (end_or_piece text load at b.1 l.start l.next b.0 a.0 e' l.is b.2 b.3 a.1 a.2 a.3)
 one_reading text at load (l ∷ ls) (m ∷ ms) e e' a b =
     let start : l.start ≡ m.start =
-      one_stop text at l.start m.start a.0 b.0 a.1 (clear_piece text l.is l.start l.next a.2) b.1 (clear_piece text m.is m.start m.next b.2) in
+    one_stop text at l.start m.start a.0 b.0 a.1 (clear_piece text l.is l.start l.next a.2) b.1 (clear_piece text m.is m.start m.next b.2) in
     let there : Stands text l.is m.start l.next = subst (λ (n : ℕ). Stands text l.is n l.next) start a.2 in
     let is : l.is ≡ m.is = one_standing text m.start l.next m.next l.is m.is there b.2 in
     let next : l.next ≡ m.next = one_end text m.start l.next m.next l.is m.is there b.2 in
     let lexeme : l ≡ m = λ i. record { is = is i; start = start i; next = next i } in
     let rest : Reads text l.next (load_after load l.is) ms e' =
-      subst (λ (p : Piece). Reads text l.next (load_after load p) ms e') (sym is)
-      (subst (λ (n : ℕ). Reads text n (load_after load m.is) ms e') (sym next) b.4) in
+    subst (λ (p : Piece). Reads text l.next (load_after load p) ms e') (sym is)
+    (subst (λ (n : ℕ). Reads text n (load_after load m.is) ms e') (sym next) b.4) in
     let more = one_reading text l.next (load_after load l.is) ls ms e e' a.4 rest in
     (λ i. lexeme i ∷ more.0 i, more.1)

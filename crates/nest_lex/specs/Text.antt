@@ -1,5 +1,5 @@
 -- The tokens of a text, or its first fault.
-use Rattle.std.specs.Prelude.{◌≡◌, ℕ, ◌+◌, ◌<◌, ◌≤◌, Bool, true, false, List, [], ◌∷◌, ◌++◌, length, fold, filter_map, map, Option, Some, None, if◌then◌else◌, slice_index, slice_range}
+use Rattle.std.specs.Prelude.{◌≡◌, ◌≢◌, ℕ, ◌+◌, ◌^◌, ◌<◌, ◌≤◌, Bool, true, false, List, [], ◌∷◌, ◌++◌, All, AllPairs, length, fold, filter_map, map, Option, Some, None, if◌then◌else◌, slice_index, slice_range}
 use Rattle.std.specs.List.{list_any, position_or_len}
 use Rattle.std.specs.Str.{bytes_eq}
 use Rattle.nest_lex.specs.Bytes.{is_digit, is_blank}
@@ -123,3 +123,15 @@ pub record IsFault (text : List ℕ) (fault : LexKind) (spot : Spot) : Type 0 wh
 abbrev pub IsRefusal : List ℕ → LexRefused → Type 0
 IsRefusal text (Fault fault spot) = IsFault text fault spot
 IsRefusal text NoMemory = Unit {0}
+
+-- a name's number is below the count of the names, and a number is at most 2^63 - 1
+abbrev pub IsKindWithin : ℕ → Kind → Type 0
+IsKindWithin names (kind.Name n) = n < names
+IsKindWithin names (kind.Number n) = n ≤ 9223372036854775807
+IsKindWithin names _ = Unit {0}
+
+-- no two names are alike, and the kinds of the tokens are within their bounds
+pub record AreWellNamed (tokens : Tokens) : Type 0 where
+  pub differ : AllPairs (λ a b. a ≢ b) tokens.names
+  pub few : length tokens.names < 2 ^ 32
+  pub kinds : All (λ token. IsKindWithin (length tokens.names) token.kind) tokens.list

@@ -32,7 +32,9 @@ impl Load {
     {
         match mark {
             Mark::OpenRound | Mark::OpenSquare | Mark::OpenCurly => self.opened + 1,
-            Mark::CloseRound | Mark::CloseSquare | Mark::CloseCurly => self.opened.saturating_sub(1),
+            Mark::CloseRound | Mark::CloseSquare | Mark::CloseCurly => self
+                .opened
+                .saturating_sub(1),
             _ => self.opened,
         }
     }

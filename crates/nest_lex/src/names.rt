@@ -4,7 +4,6 @@ ghost use Rattle.std.specs.List.{position_or_len};
 ghost use Rattle.std.specs.Str.{bytes_eq};
 ghost use Rattle.nest_lex.specs.Text.{with_name, names_with, kind_of as kind_with};
 
-
 use crate::piece::Piece;
 use crate::token::Kind;
 use indexmap::IndexSet;
@@ -13,7 +12,12 @@ use sqlite_items::Items;
 use std::alloc::{AllocError, Global};
 
 /// The number of a name: its place among those that were seen, in the order of their first appearance.
-fn number_of_name<'a>(alloc: Global, seen: &mut IndexSet<&'a [u8]>, names: &mut Items<Name>, name: &'a [u8]) -> Result<u32, AllocError>
+fn number_of_name<'a>(
+    alloc: Global,
+    seen: &mut IndexSet<&'a [u8]>,
+    names: &mut Items<Name>,
+    name: &'a [u8],
+) -> Result<u32, AllocError>
     requires seen { names.old ≡ map (λ k. k.now) seen.old.keys }
     requires few { length names.old + 1 < 2 ^ 32 }
     ensures seen { OnOk result (names.new ≡ map (λ k. k.now) seen.new.keys) }
@@ -29,7 +33,13 @@ fn number_of_name<'a>(alloc: Global, seen: &mut IndexSet<&'a [u8]>, names: &mut 
 
 /// The kind of a token with these bytes. A name that was not seen before goes last among the names.
 #[tactic(auto, using(crate::proofs::Numbering::place_with_name))]
-pub fn kind_of<'a>(alloc: Global, seen: &mut IndexSet<&'a [u8]>, names: &mut Items<Name>, bytes: &'a [u8], piece: Piece) -> Result<Kind, AllocError>
+pub fn kind_of<'a>(
+    alloc: Global,
+    seen: &mut IndexSet<&'a [u8]>,
+    names: &mut Items<Name>,
+    bytes: &'a [u8],
+    piece: Piece,
+) -> Result<Kind, AllocError>
     requires seen { names.old ≡ map (λ k. k.now) seen.old.keys }
     requires few { length names.old + 1 < 2 ^ 32 }
     ensures seen { OnOk result (names.new ≡ map (λ k. k.now) seen.new.keys) }

@@ -1,7 +1,7 @@
 //! A reader goes over a text from the front, a gap or a piece at a time.
 ghost use Rattle.std.specs.Prelude.{◌≡◌, ◌<◌, ◌≤◌, ℕ, List, length, OnOk, IfErr, map};
 ghost use Rattle.nest_lex.specs.Pieces.{IsGap, Stands};
-ghost use Rattle.nest_lex.specs.Text.{AreTokens, IsRefusal};
+ghost use Rattle.nest_lex.specs.Text.{AreTokens, AreWellNamed, IsRefusal};
 
 use crate::found::{Found, found_at};
 use crate::load::Load;
@@ -55,7 +55,13 @@ impl<'a> Reader<'a> {
         self.at = to;
     }
 
-    fn take_piece(&mut self, alloc: Global, bytes: &'a [u8], piece: Piece, next: usize) -> Result<(), LexRefused>
+    fn take_piece(
+        &mut self,
+        alloc: Global,
+        bytes: &'a [u8],
+        piece: Piece,
+        next: usize,
+    ) -> Result<(), LexRefused>
         requires read { HasRead bytes.now self.old }
         requires small { length bytes.now ≤ 33554432 }
         requires stands { Stands bytes.now piece self.old.at next }
@@ -70,8 +76,17 @@ impl<'a> Reader<'a> {
                 at: self.spot,
             });
         }
-        let kind = kind_of(alloc, &mut self.seen, &mut self.names, &bytes[self.at..next], piece)?;
-        self.list.push(Token { kind, spot: self.spot })?;
+        let kind = kind_of(
+            alloc,
+            &mut self.seen,
+            &mut self.names,
+            &bytes[self.at..next],
+            piece,
+        )?;
+        self.list.push(Token {
+            kind,
+            spot: self.spot,
+        })?;
         self.load = load;
         self.spot = spot_after(bytes, self.at, next, self.spot);
         self.at = next;
@@ -93,17 +108,31 @@ impl<'a> Reader<'a> {
                 Ok(())
             }
             Found::Piece(piece, next) => self.take_piece(alloc, bytes, piece, next),
-            Found::Fault(kind) => Err(LexRefused::Fault { kind, at: self.spot }),
+            Found::Fault(kind) => Err(LexRefused::Fault {
+                kind,
+                at: self.spot,
+            }),
         }
     }
 
     /// The tokens of a text that was read to its end.
     pub fn tokens(self, bytes: &[u8]) -> Tokens
         requires read { HasRead bytes.now self }
+        requires small { length bytes.now ≤ 33554432 }
         requires end { self.at ≡ length bytes.now }
-        ensures { AreTokens bytes.now result }
+        ensures tokens { AreTokens bytes.now result }
+        ensures named { AreWellNamed result }
     {
-        let Reader { names, list, spot, .. } = self;
-        Tokens { names, list, end: spot }
+        let Reader {
+            names,
+            list,
+            spot,
+            ..
+        } = self;
+        Tokens {
+            names,
+            list,
+            end: spot,
+        }
     }
 }

@@ -29,6 +29,7 @@ pub enum LexRefused {
 impl From<AllocError> for LexRefused {
     ghost use Rattle.std.specs.Prelude.{◌≡◌};
     ghost use Rattle.nest_lex.specs.declared.refused.LexRefused.TheVariants.{NoMemory};
+
     ghost from_gives = { λ _ e. e ≡ NoMemory };
 
     fn from(_error: AllocError) -> LexRefused {

@@ -12,9 +12,9 @@ returns-then-not-is_allowed-clause-refused c =
 pub returns-clause-read : goal.returns-clause-read
 returns-clause-read c =
     let allowed : IsAllowed (load_after c.args.self.now.load c.args.piece) =
-      subst (λ (load : Load). IsAllowed load) c.after-load.ensures (c.if-not-is_allowed.ensures.0 refl) in
+    subst (λ (load : Load). IsAllowed load) c.after-load.ensures (c.if-not-is_allowed.ensures.0 refl) in
     record {
       went = rw (c.in_ok-push.ensures.ok, c.after-load.ensures)
-        (piece_taken _ _ _ _ _ _ _ _ _ _ _ c.requires.read.went c.requires.stands allowed c.in_ok-kind.ensures.names c.in_ok-kind.ensures.kind c.spot_after-self.ensures);
-      seen = c.in_ok-kind.ensures.seen
+          (piece_taken _ _ _ _ _ _ _ _ _ _ _ c.requires.read.went c.requires.stands allowed c.in_ok-kind.ensures.names c.in_ok-kind.ensures.kind c.spot_after-self.ensures);
+      seen = c.in_ok-kind.ensures.seen;
     }
