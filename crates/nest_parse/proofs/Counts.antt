@@ -12,7 +12,6 @@ use Rattle.nest_lex.specs.declared.token.Mark.TheVariants as mark
 use Rattle.nest_lex.specs.declared.token.Kind.{Kind}
 use Rattle.nest_lex.specs.declared.token.Kind.TheVariants.{Name, Number, Keyword, Mark}
 use Rattle.nest_lex.specs.declared.token.Token.{Token}
-use Rattle.nest_lex.specs.Named.{kind_named, token_named}
 use Rattle.nest_parse.specs.declared.cursor.Part.{Part}
 use Rattle.nest_parse.specs.First.{token, Begins, no_more, one_more, operator_of, IsOperand, a_number, a_name, a_word, IsLevel, operand, level, IsTail, ended, goes_on, header_kinds, declaration_kinds, AreFirst}
 use Rattle.nest_parse.specs.Reading.{is_operator}

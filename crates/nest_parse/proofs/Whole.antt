@@ -19,8 +19,7 @@ use Rattle.nest_syntax.specs.FirstForm.{First, Turns, loop_of, IsKept, IsFirstFo
 use Rattle.nest_syntax.specs.Named.{IsWellNamed}
 use Rattle.nest_lex.specs.declared.token.Token.{Token}
 use Rattle.nest_lex.specs.declared.token.Tokens.{Tokens}
-use Rattle.nest_lex.specs.Named.{AreWellNamed}
-use Rattle.nest_lex.specs.Text.{AreTokens}
+use Rattle.nest_lex.specs.Text.{AreTokens, AreWellNamed}
 use Rattle.nest_parse.specs.declared.text.Nest.{Nest}
 use Rattle.nest_parse.specs.declared.refused.FirstRefused.{FirstRefused}
 use Rattle.nest_parse.specs.declared.refused.FirstRefused.TheVariants.{Form, NoMemory}

@@ -5,8 +5,13 @@ use Rattle.nest_lex.specs.declared.token.Token.{Token}
 use Rattle.nest_parse.specs.First.{IsFirst}
 use Rattle.nest_parse.specs.Reading.{first_of, ReadsNest}
 use Rattle.nest_parse.proofs.Names.{well_named}
-use Rattle.nest_parse.proofs.Whole.{no_nest, is_first, only_first, if_made, only_made}
+use Rattle.nest_parse.proofs.Whole.{no_tokens, no_nest, is_first, only_first, if_made, only_made}
 use Rattle.nest_parse.proofs.first.parse_first.Goals as goal
+
+pub returns-in_err-names-clause-only : goal.returns-in_err-names-clause-only
+returns-in_err-names-clause-only c =
+    let p = err_from_is_err_and c.from_residual.result c.from_residual.ensures.1 in
+    rw (p.1, p.2) (no_tokens c.in_err-names.ensures)
 
 pub returns-in_err-nest-clause-only : goal.returns-in_err-nest-clause-only
 returns-in_err-nest-clause-only c =
