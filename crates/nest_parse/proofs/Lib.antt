@@ -3,3 +3,7 @@ pub mod Joins
 pub mod Operands
 pub mod Parts
 pub mod EndLines
+pub mod Equations
+pub mod Counts
+pub mod Names
+pub mod Whole

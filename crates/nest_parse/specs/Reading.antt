@@ -10,8 +10,7 @@ use Rattle.nest_lex.specs.declared.token.Kind.{Kind}
 use Rattle.nest_lex.specs.declared.token.Kind.TheVariants.{Name, Number, Keyword, Mark}
 use Rattle.nest_lex.specs.declared.token.Token.{Token}
 use Rattle.nest_lex.specs.declared.token.Tokens.{Tokens}
-use Rattle.nest_lex.specs.Named.{AreWellNamed}
-use Rattle.nest_lex.specs.Text.{AreTokens}
+use Rattle.nest_lex.specs.Text.{AreTokens, AreWellNamed}
 use Rattle.nest_parse.specs.declared.cursor.Part.{Part}
 use Rattle.nest_parse.specs.declared.cursor.Part.TheVariants.{Place, Value}
 use Rattle.nest_parse.specs.declared.text.Declaration.{Declaration}

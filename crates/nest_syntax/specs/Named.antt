@@ -1,8 +1,6 @@
 -- Programs whose name numbers are numbers of names.
-use Rattle.std.specs.Prelude.{ℕ, ◌<◌, ◌^◌, Bool, true, ◌&&◌, nat_lt, IsTrue, List, length, map}
-use Rattle.std.specs.List.{list_all, IsDistinct}
-use Rattle.std.specs.Str.{bytes_eq}
-use Rattle.nest_syntax.specs.declared.names.Line.{Line}
+use Rattle.std.specs.Prelude.{◌≢◌, ℕ, ◌<◌, ◌^◌, Bool, true, ◌&&◌, nat_lt, IsTrue, List, length, map}
+use Rattle.std.specs.List.{list_all, AllPairs}
 use Rattle.nest_syntax.specs.declared.tree.Expr.{Expr, fold-Expr}
 use Rattle.nest_syntax.specs.declared.tree.Expr.TheOpen.{Expr-F}
 use Rattle.nest_syntax.specs.declared.tree.Stmt.TheFolds.{fold-Loop}
@@ -12,10 +10,10 @@ use Rattle.nest_syntax.specs.declared.tree.Decl.{Decl}
 use Rattle.nest_syntax.specs.declared.tree.Decl.TheVariants as decl
 use Rattle.nest_syntax.specs.declared.tree.Program.{Program}
 
--- The names of a list are fewer than 2^32, and no two are the same.
+-- The names of a list are fewer than 2^32, and no two are alike.
 pub record AreNames (names : List (List ℕ)) : Type 0 where
   pub few : length names < 2 ^ 32
-  pub differ : IsDistinct bytes_eq names
+  pub differ : AllPairs (λ a b. a ≢ b) names
 
 -- Each name number in an expression is below `count`: at one layer, where the parts have their answers.
 abbrev pub node_named : ℕ → Expr-F Bool → Bool
