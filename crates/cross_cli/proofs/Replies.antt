@@ -1,0 +1,34 @@
+-- What makes an answer due.
+use Rattle.std.proofs.Common.{◌≡◌, ℕ, ◌+◌, ◌≤◌, ◌<◌, ◌≢◌, ℤ, List, codes, length, Option, Some, None, Result, Ok, Err, IfOk, MatchResult, refl, sym, subst, ◌∙◌, ap, arith}
+use Rattle.std.specs.Io.KnownBytes.{Keeps, Consumes, IsAtEnd}
+use Rattle.nest_syntax.specs.declared.names.NoMemory.{NoMemory}
+use Rattle.nest_syntax.specs.declared.tree.Program.{Program}
+use Rattle.nest_io.specs.declared.transfer.TheConstants.{MOST_BYTES}
+use Rattle.nest_parse.specs.First.{IsFirst}
+use Rattle.nest_mean.specs.Job.{Nest}
+use Rattle.cross_cli.specs.declared.status.Status.TheVariants as status
+use Rattle.cross_cli.specs.declared.top.Unanswered.{Unanswered}
+use Rattle.cross_cli.specs.declared.words.Action.{Action}
+use Rattle.cross_cli.specs.declared.words.Action.TheVariants.{Plain}
+use Rattle.cross_cli.specs.Answers.{Answer, refusal, acted, zeros_of, AnswersInput, too_long, no_text, a_text}
+use Rattle.cross_cli.specs.Ends.{TakesInput, IsDueTo}
+
+-- the one action, on the job that was made of a program
+pub acted_by : (r : Result Answer NoMemory) (action : Action) (program : Program) (words : List ℤ) (nest : Nest) → nest ≡ record { program = program; words = words } → IfOk r (λ reply. reply ≡ acted Plain nest.program nest.words) → IfOk r (λ reply. reply ≡ acted action program words)
+acted_by (Ok reply) Plain program words nest is h = h ∙ ap (λ (n : Nest). acted Plain n.program n.words) is
+acted_by (Err e) Plain program words nest is h = tt
+
+-- the answer to a text of the first form
+pub text_answered : (r : Result Answer NoMemory) (action : Action) (input : List ℕ) (program : Program) → length input ≤ MOST_BYTES → IsFirst input program → IfOk r (λ reply. reply ≡ acted action program (zeros_of program)) → IfOk r (λ reply. AnswersInput action input reply)
+text_answered (Ok reply) action input program few first h = subst (λ a. AnswersInput action input a) (sym h) (a_text few program first)
+text_answered (Err e) action input program few first h = tt
+
+-- and to any other
+pub other_answered : (r : Result Answer NoMemory) (action : Action) (input : List ℕ) → length input ≤ MOST_BYTES → ((program : Program) → IsFirst input program → ⊥) → IfOk r (λ reply. reply ≡ refusal status.TextRefused (codes "text")) → IfOk r (λ reply. AnswersInput action input reply)
+other_answered (Ok reply) action input few none h = subst (λ a. AnswersInput action input a) (sym h) (no_text few none)
+other_answered (Err e) action input few none h = tt
+
+-- the answer to an input that is too long
+pub long_is_due : (s : Result Answer Unanswered) (r : Result Answer NoMemory) (action : Action) (old new : Option (List ℕ)) (e : Unanswered) → MatchResult r (λ reply. s ≡ Ok reply) (λ _. s ≡ Err e) → IfOk r (λ reply. reply ≡ refusal status.TextRefused (codes "too long")) → (more : List ℕ) → length more ≡ MOST_BYTES + 1 → Consumes old new more → IfOk s (λ reply. IsDueTo (Some action) old new reply)
+long_is_due s (Ok reply) action old new e is h more long taken = subst (λ t. IfOk t (λ a. IsDueTo (Some action) old new a)) (sym is) (more, record { taken = taken; whole = λ few. absurd (omega (arith, long, few)) }, subst (λ a. AnswersInput action more a) (sym h) (too_long (omega (arith, long))))
+long_is_due s (Err x) action old new e is h more long taken = subst (λ t. IfOk t (λ a. IsDueTo (Some action) old new a)) (sym is) tt
