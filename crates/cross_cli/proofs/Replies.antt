@@ -19,9 +19,9 @@ acted_by (Ok reply) Plain program words nest is h = h ∙ ap (λ (n : Nest). act
 acted_by (Err e) Plain program words nest is h = tt
 
 -- the answer to a text of the first form
-pub text_answered : (r : Result Answer NoMemory) (action : Action) (input : List ℕ) (program : Program) → length input ≤ MOST_BYTES → IsFirst input program → IfOk r (λ reply. reply ≡ acted action program (zeros_of program)) → IfOk r (λ reply. AnswersInput action input reply)
-text_answered (Ok reply) action input program few first h = subst (λ a. AnswersInput action input a) (sym h) (a_text few program first)
-text_answered (Err e) action input program few first h = tt
+pub text_answered : (r : Result Answer NoMemory) (action : Action) (input : List ℕ) (program : Program) → length input ≤ MOST_BYTES → IsFirst input program → ((other : Program) → IsFirst input other → program ≡ other) → IfOk r (λ reply. reply ≡ acted action program (zeros_of program)) → IfOk r (λ reply. AnswersInput action input reply)
+text_answered (Ok reply) action input program few first only h = subst (λ a. AnswersInput action input a) (sym h) (a_text few program first (λ other is. sym (only other is)))
+text_answered (Err e) action input program few first only h = tt
 
 -- and to any other
 pub other_answered : (r : Result Answer NoMemory) (action : Action) (input : List ℕ) → length input ≤ MOST_BYTES → ((program : Program) → IsFirst input program → ⊥) → IfOk r (λ reply. reply ≡ refusal status.TextRefused (codes "text")) → IfOk r (λ reply. AnswersInput action input reply)
@@ -32,3 +32,16 @@ other_answered (Err e) action input few none h = tt
 pub long_is_due : (s : Result Answer Unanswered) (r : Result Answer NoMemory) (action : Action) (old new : Option (List ℕ)) (e : Unanswered) → MatchResult r (λ reply. s ≡ Ok reply) (λ _. s ≡ Err e) → IfOk r (λ reply. reply ≡ refusal status.TextRefused (codes "too long")) → (more : List ℕ) → length more ≡ MOST_BYTES + 1 → Consumes old new more → IfOk s (λ reply. IsDueTo (Some action) old new reply)
 long_is_due s (Ok reply) action old new e is h more long taken = subst (λ t. IfOk t (λ a. IsDueTo (Some action) old new a)) (sym is) (more, record { taken = taken; whole = λ few. absurd (omega (arith, long, few)) }, subst (λ a. AnswersInput action more a) (sym h) (too_long (omega (arith, long))))
 long_is_due s (Err x) action old new e is h more long taken = subst (λ t. IfOk t (λ a. IsDueTo (Some action) old new a)) (sym is) tt
+
+-- one answer
+module _ (action : Action) (input : List ℕ) where
+  pub one_answer : (answer other : Answer) → AnswersInput action input answer → AnswersInput action input other → answer ≡ other
+  one_answer answer other (too_long long) (too_long long') = refl
+  one_answer answer other (too_long long) (no_text few none) = absurd (omega (arith, long, few))
+  one_answer answer other (too_long long) (a_text few program first only) = absurd (omega (arith, long, few))
+  one_answer answer other (no_text few none) (too_long long) = absurd (omega (arith, long, few))
+  one_answer answer other (no_text few none) (no_text few' none') = refl
+  one_answer answer other (no_text few none) (a_text few' program first only) = absurd (none program first)
+  one_answer answer other (a_text few program first only) (too_long long) = absurd (omega (arith, long, few))
+  one_answer answer other (a_text few program first only) (no_text few' none) = absurd (none program first)
+  one_answer answer other (a_text few program first only) (a_text few' program' first' only') = ap (λ p. acted action p (zeros_of p)) (only' program first)

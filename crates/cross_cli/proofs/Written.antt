@@ -37,7 +37,7 @@ acted_answers Plain program e = printed_answers program e
 input_answers : (action : Action) (input : List ℕ) (answer : Answer) → AnswersInput action input answer → IsAnswering answer.status
 input_answers action input answer (too_long long) = tt
 input_answers action input answer (no_text few none) = tt
-input_answers Plain input answer (a_text few program first) = acted_answers Plain program _
+input_answers Plain input answer (a_text few program first only) = acted_answers Plain program _
 
 due_answers : (action : Option Action) (old new : Option (List ℕ)) (answer : Answer) → IsDueTo action old new answer → IsAnswering answer.status
 due_answers None old new answer due = subst (λ (a : Answer). IsAnswering a.status) (sym due.1) tt

@@ -1,5 +1,5 @@
 -- What an action answers: the status that it ends with and the bytes that it prints.
-use Rattle.std.specs.Prelude.{ℕ, ◌≤◌, ◌<◌, ℤ, pos, List, [], ◌∷◌, ◌++◌, codes, length, sum, replicate}
+use Rattle.std.specs.Prelude.{◌≡◌, ℕ, ◌≤◌, ◌<◌, ℤ, pos, List, [], ◌∷◌, ◌++◌, codes, length, sum, replicate}
 use Rattle.nest_syntax.specs.declared.tree.Program.{Program}
 use Rattle.nest_syntax.specs.Arrays.{arrays_of, sizes_of}
 use Rattle.nest_syntax.specs.Outcome.{Ending, Done, TrappedAt, ending}
@@ -32,8 +32,12 @@ acted Plain program words = printed program (ending program words)
 abbrev pub zeros_of : Program → List ℤ
 zeros_of program = replicate (sum (sizes_of (arrays_of program.decls))) (pos 0)
 
--- What an action answers to an input: that it is too long, or no nest, or what it answers to the nest.
+-- What an action answers to an input: that it is too long, or no nest, or what it answers to the one nest that it is.
 pub data AnswersInput (action : Action) (input : List ℕ) : Answer → Type 0 where
   too_long : MOST_BYTES < length input → AnswersInput action input (refusal status.TextRefused (codes "too long"))
   no_text : length input ≤ MOST_BYTES → ((program : Program) → IsFirst input program → ⊥) → AnswersInput action input (refusal status.TextRefused (codes "text"))
-  a_text : length input ≤ MOST_BYTES → (program : Program) → IsFirst input program → AnswersInput action input (acted action program (zeros_of program))
+  a_text : length input ≤ MOST_BYTES → (program : Program) → IsFirst input program → ((other : Program) → IsFirst input other → other ≡ program) → AnswersInput action input (acted action program (zeros_of program))
+
+-- an input has one answer
+abbrev pub OneAnswer : Type 0
+OneAnswer = (action : Action) (input : List ℕ) (answer other : Answer) → AnswersInput action input answer → AnswersInput action input other → answer ≡ other

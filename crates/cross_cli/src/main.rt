@@ -4,10 +4,14 @@
 #![tactic(auto)]
 
 mod answers;
+mod laws;
 mod status;
+#[cfg(test)]
+mod tests;
 mod top;
 mod words;
 
+pub use laws::one_answer;
 use nest_io::{StdSink, StdSource};
 use nest_syntax::NoMemory;
 pub use status::{Ended, Status};

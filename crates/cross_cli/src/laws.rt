@@ -1,0 +1,6 @@
+ghost use Rattle.cross_cli.specs.Answers.{OneAnswer};
+
+/// A law: an input has one answer, so the bytes that are due are a function of words and input.
+pub fn one_answer()
+    ensures { OneAnswer }
+{}
