@@ -1,0 +1,3 @@
+pub mod NamesChanged
+pub mod TurnRun
+pub mod TurnParts

@@ -5,9 +5,11 @@
 #![tactic(auto)]
 
 mod arrays;
+mod bodies;
 mod expressions;
 mod values;
 
 pub use arrays::array_of;
+pub use bodies::{TurnTrap, run_body};
 pub use expressions::eval;
 pub use values::Scalars;

@@ -18,8 +18,8 @@ overflow_add-number c = omega (arith, c.loop-decl.invariant.few)
 pub loop-decl-preserved : goal.loop-decl-preserved
 loop-decl-preserved c =
     elim c.match-decl.branch [
-      in-Array+else-declared-name w ↦ rw w.number-is (scan_passes_array _ _ _ _ _ _ _ _ _ c.loop-decl-test.true w.in-Array.is (ne_eqb _ _ w.if-declared-name.false) c.loop-decl.invariant)
-    | in-Scalar w ↦ rw w.number-is (scan_passes_scalar _ _ _ _ _ _ _ _ c.loop-decl-test.true w.in-Scalar.is c.loop-decl.invariant)
+      | in-Array+else-declared-name w ↦ rw w.number-is (scan_passes_array _ _ _ _ _ _ _ _ _ c.loop-decl-test.true w.in-Array.is (ne_eqb _ _ w.if-declared-name.false) c.loop-decl.invariant)
+      | in-Scalar w ↦ rw w.number-is (scan_passes_scalar _ _ _ _ _ _ _ _ c.loop-decl-test.true w.in-Scalar.is c.loop-decl.invariant)
     ]
 
 pub returns-clause-number : goal.returns-clause-number
