@@ -1,3 +1,4 @@
 pub mod Scan
 pub mod Names
 pub mod Parts
+pub mod Statements

@@ -162,23 +162,26 @@ module _ (arrays : List Array) where
     abbrev pub block_from : ℕ → Effect
     block_from i = sequence (map (effect arrays) (drop i stmts))
 
-    block_from-is : (i : ℕ) (none : Stmt) → i < length stmts → block_from i ≡ (λ scalars go. effect arrays (get_or stmts i none) scalars (λ after. block_from (i + 1) after go))
-    block_from-is i none there = ap (λ rest. sequence (map (effect arrays) rest)) (drop-cons stmts i none there)
-        ∙ ap (λ k. λ scalars go. effect arrays (get_or stmts i none) scalars (λ after. block_from k after go)) (sym (add-one i))
+    module _ (i : ℕ) (there : i < length stmts) (here : Stmt) (is : here ≡ get_or stmts i here) where
+      block_from-is : block_from i ≡ (λ scalars go. effect arrays here scalars (λ after. block_from (i + 1) after go))
+      block_from-is = ap (λ rest. sequence (map (effect arrays) rest)) (drop-cons stmts i here there)
+          ∙ ap (λ x. λ scalars go. effect arrays x scalars (λ after. block_from (suc i) after go)) (sym is)
+          ∙ ap (λ k. λ scalars go. effect arrays here scalars (λ after. block_from k after go)) (sym (add-one i))
 
-    pub block_runs : (i : ℕ) (none : Stmt) (s₀ : List ℤ) (m₀ : Memory) (s : List ℤ) (m : Memory) (s' : List ℤ) (m' : Memory) → i < length stmts
-        → IsLeft block (block_from i) (names_changed stmts) s₀ m₀ s m → Runs arrays (effect arrays (get_or stmts i none)) (changed (get_or stmts i none)) (Ok tt) s m s' m'
-        → IsLeft block (block_from (i + 1)) (names_changed stmts) s₀ m₀ s' m'
-    block_runs i none s₀ m₀ s m s' m' there left runs =
-        part_runs block (block_from i) (block_from (i + 1)) (effect arrays (get_or stmts i none)) (names_changed stmts) (changed (get_or stmts i none)) s₀ m₀ s m s' m'
-          (block_from-is i none there) (among_part changed stmts i none there) left runs
+      here_names : (name : ℕ) → is_among (names_changed stmts) name ≡ false → is_among (changed here) name ≡ false
+      here_names name apart = ap (λ x. is_among (changed x) name) is ∙ among_part changed stmts i here there name apart
 
-    pub block_stops : (i : ℕ) (none : Stmt) (trap : TurnTrap) (s₀ : List ℤ) (m₀ : Memory) (s : List ℤ) (m : Memory) (s' : List ℤ) (m' : Memory) → i < length stmts
-        → IsLeft block (block_from i) (names_changed stmts) s₀ m₀ s m → Runs arrays (effect arrays (get_or stmts i none)) (changed (get_or stmts i none)) (Err trap) s m s' m'
-        → Runs arrays block (names_changed stmts) (Err trap) s₀ m₀ s' m'
-    block_stops i none trap s₀ m₀ s m s' m' there left runs =
-        part_stops block (block_from i) (block_from (i + 1)) (effect arrays (get_or stmts i none)) (names_changed stmts) (changed (get_or stmts i none)) trap s₀ m₀ s m s' m'
-          (block_from-is i none there) (among_part changed stmts i none there) left runs
+      pub block_runs : (s₀ : List ℤ) (m₀ : Memory) (s : List ℤ) (m : Memory) (s' : List ℤ) (m' : Memory)
+          → IsLeft block (block_from i) (names_changed stmts) s₀ m₀ s m → Runs arrays (effect arrays here) (changed here) (Ok tt) s m s' m'
+          → IsLeft block (block_from (i + 1)) (names_changed stmts) s₀ m₀ s' m'
+      block_runs s₀ m₀ s m s' m' left runs =
+          part_runs block (block_from i) (block_from (i + 1)) (effect arrays here) (names_changed stmts) (changed here) s₀ m₀ s m s' m' block_from-is here_names left runs
+
+      pub block_stops : (trap : TurnTrap) (s₀ : List ℤ) (m₀ : Memory) (s : List ℤ) (m : Memory) (s' : List ℤ) (m' : Memory)
+          → IsLeft block (block_from i) (names_changed stmts) s₀ m₀ s m → Runs arrays (effect arrays here) (changed here) (Err trap) s m s' m'
+          → Runs arrays block (names_changed stmts) (Err trap) s₀ m₀ s' m'
+      block_stops trap s₀ m₀ s m s' m' left runs =
+          part_stops block (block_from i) (block_from (i + 1)) (effect arrays here) (names_changed stmts) (changed here) trap s₀ m₀ s m s' m' block_from-is here_names left runs
 
     pub block_ends : (i : ℕ) (s₀ : List ℤ) (m₀ : Memory) (s : List ℤ) (m : Memory) → length stmts ≤ i
         → IsLeft block (block_from i) (names_changed stmts) s₀ m₀ s m → Runs arrays block (names_changed stmts) (Ok tt) s₀ m₀ s m
@@ -186,8 +189,18 @@ module _ (arrays : List Array) where
 
   -- turns of a loop, n in all, from turn k on
   module _ (n : ℕ) (variable_in : ℕ → ℤ) (name : ℕ) (body : List Stmt) where
+    abbrev pub all_turns : Effect
+    all_turns = repeat n 0 variable_in name (sequence (map (effect arrays) body))
+
     abbrev pub turns_from : ℕ → Effect
     turns_from k = repeat (n - k) k variable_in name (sequence (map (effect arrays) body))
+
+    pub turns_begin : (s : List ℤ) (m : Memory) → IsLeft all_turns (turns_from 0) (name ∷ names_changed body) s m s m
+    turns_begin s m = let all : n ≡ n - 0 = omega arith in record {
+      same = λ go. ap (λ l. on_words (sizes_of arrays) (repeat l 0 variable_in name (sequence (map (effect arrays) body)) s go) m.words) all;
+      sizes = refl;
+      kept = keeps_same (name ∷ names_changed body) s;
+    }
 
     turns_from-is : (k : ℕ) → k < n → turns_from k ≡ (λ scalars go. sequence (map (effect arrays) body) (with_scalar scalars name (variable_in k)) (λ after. Go (turns_from (k + 1) after go)))
     turns_from-is k there =
@@ -195,7 +208,7 @@ module _ (arrays : List Array) where
         ap (λ l. repeat l k variable_in name (sequence (map (effect arrays) body))) left
         ∙ ap (λ j. λ scalars go. sequence (map (effect arrays) body) (with_scalar scalars name (variable_in k)) (λ after. Go (repeat (n - (k + 1)) j variable_in name (sequence (map (effect arrays) body)) after go))) (sym (add-one k))
 
-    module _ (s₀ : List ℤ) (m₀ : Memory) (s : List ℤ) (m : Memory) (s' : List ℤ) (m' : Memory) (k : ℕ) (there : k < n) (left : IsLeft (turns_from 0) (turns_from k) (name ∷ names_changed body) s₀ m₀ s m) where
+    module _ (s₀ : List ℤ) (m₀ : Memory) (s : List ℤ) (m : Memory) (s' : List ℤ) (m' : Memory) (k : ℕ) (there : k < n) (left : IsLeft all_turns (turns_from k) (name ∷ names_changed body) s₀ m₀ s m) where
       turn_kept : (result : Result (Unit {0}) TurnTrap) → Runs arrays (sequence (map (effect arrays) body)) (names_changed body) result (with_scalar s name (variable_in k)) m s' m' → KeepsOthers (name ∷ names_changed body) s₀ s'
       turn_kept result runs = keeps_then (name ∷ names_changed body) s₀ s s' left.kept
           (keeps_then (name ∷ names_changed body) s (with_scalar s name (variable_in k)) s'
@@ -203,7 +216,7 @@ module _ (arrays : List Array) where
             (keeps_more (names_changed body) (name ∷ names_changed body) (with_scalar s name (variable_in k)) s' (among_behind name (names_changed body)) runs.kept))
 
       pub turn_runs : Runs arrays (sequence (map (effect arrays) body)) (names_changed body) (Ok tt) (with_scalar s name (variable_in k)) m s' m'
-          → IsLeft (turns_from 0) (turns_from (k + 1)) (name ∷ names_changed body) s₀ m₀ s' m'
+          → IsLeft all_turns (turns_from (k + 1)) (name ∷ names_changed body) s₀ m₀ s' m'
       turn_runs runs = record {
         same = λ go. left.same go ∙ ap (λ f. on_words (sizes_of arrays) (f s go) m.words) (turns_from-is k there) ∙ runs.same (λ after. Go (turns_from (k + 1) after go));
         sizes = runs.sizes ∙ left.sizes;
@@ -211,15 +224,15 @@ module _ (arrays : List Array) where
       }
 
       pub turn_stops : (trap : TurnTrap) → Runs arrays (sequence (map (effect arrays) body)) (names_changed body) (Err trap) (with_scalar s name (variable_in k)) m s' m'
-          → Runs arrays (turns_from 0) (name ∷ names_changed body) (Err trap) s₀ m₀ s' m'
+          → Runs arrays all_turns (name ∷ names_changed body) (Err trap) s₀ m₀ s' m'
       turn_stops trap runs = record {
         same = λ go. left.same go ∙ ap (λ f. on_words (sizes_of arrays) (f s go) m.words) (turns_from-is k there) ∙ runs.same (λ after. Go (turns_from (k + 1) after go));
         sizes = runs.sizes ∙ left.sizes;
         kept = turn_kept (Err trap) runs;
       }
 
-    pub turns_end : (k : ℕ) (s₀ : List ℤ) (m₀ : Memory) (s : List ℤ) (m : Memory) → n ≤ k → IsLeft (turns_from 0) (turns_from k) (name ∷ names_changed body) s₀ m₀ s m
-        → Runs arrays (turns_from 0) (name ∷ names_changed body) (Ok tt) s₀ m₀ s m
+    pub turns_end : (k : ℕ) (s₀ : List ℤ) (m₀ : Memory) (s : List ℤ) (m : Memory) → n ≤ k → IsLeft all_turns (turns_from k) (name ∷ names_changed body) s₀ m₀ s m
+        → Runs arrays all_turns (name ∷ names_changed body) (Ok tt) s₀ m₀ s m
     turns_end k s₀ m₀ s m over left =
         let over' : n - k ≡ 0 = omega arith in
-        none_left (turns_from 0) (turns_from k) (name ∷ names_changed body) s₀ m₀ s m (ap (λ l. repeat l k variable_in name (sequence (map (effect arrays) body))) over') left
+        none_left all_turns (turns_from k) (name ∷ names_changed body) s₀ m₀ s m (ap (λ l. repeat l k variable_in name (sequence (map (effect arrays) body))) over') left

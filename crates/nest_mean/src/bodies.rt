@@ -12,7 +12,7 @@ ghost use Rattle.nest_mean.specs.TurnRun.{ended};
 ghost use Rattle.nest_mean.specs.TurnParts.{Runs, RunsArms, went_on_with, at_line, wrote};
 
 use crate::arrays::array_of;
-use crate::expressions::eval;
+use crate::expressions::{eval, is_zero};
 use crate::values::Scalars;
 use nest_syntax::{Arm, Cause, Decl, Expr, Line, Loop, Op, Stmt};
 use word_store::{Words, assign, count_turns, value_in_turn};
@@ -118,7 +118,8 @@ fn run_arms(
         result scalars.old words.old scalars.new words.new }
 {
     for arm in arms {
-        if value_of(&arm.test, arm.line, scalars, words, decls)? != 0 {
+        let test = value_of(&arm.test, arm.line, scalars, words, decls)?;
+        if !is_zero(test) {
             run_block(arm.body.as_slice(), scalars, words, decls)?;
             return Ok(true);
         }

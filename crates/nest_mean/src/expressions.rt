@@ -1,5 +1,5 @@
 ghost use Rattle.std.specs.Prelude.{◌≡◌, ◌<◌, ◌^◌, length};
-ghost use Rattle.nest_syntax.specs.Words.{truth};
+ghost use Rattle.nest_syntax.specs.Words.{truth, is_zero};
 ghost use Rattle.nest_syntax.specs.Arrays.{arrays_of, sizes_of};
 ghost use Rattle.nest_syntax.specs.Value.{value, read, and_then};
 
@@ -32,10 +32,10 @@ pub fn eval(expr: &Expr, scalars: &Scalars, words: &Words, decls: &[Decl]) -> Re
             }
         }
         Expr::Choice(test, first, second) => {
-            if eval(test.get(), scalars, words, decls)? != 0 {
-                eval(first.get(), scalars, words, decls)
-            } else {
+            if is_zero(eval(test.get(), scalars, words, decls)?) {
                 eval(second.get(), scalars, words, decls)
+            } else {
+                eval(first.get(), scalars, words, decls)
             }
         }
     }
@@ -55,4 +55,10 @@ fn truth(value: i64) -> i64
     ensures { result ≡ truth value }
 {
     if value == 0 { 0 } else { 1 }
+}
+
+pub(crate) fn is_zero(value: i64) -> bool
+    ensures { result ≡ is_zero value }
+{
+    value == 0
 }
