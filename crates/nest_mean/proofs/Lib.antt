@@ -2,3 +2,4 @@ pub mod Scan
 pub mod Names
 pub mod Parts
 pub mod Statements
+pub mod Kept

@@ -6,10 +6,17 @@
 
 mod arrays;
 mod bodies;
+mod courses;
+mod events;
 mod expressions;
+mod jobs;
+mod outcomes;
+mod saved;
 mod values;
 
 pub use arrays::array_of;
 pub use bodies::{TurnTrap, run_body};
 pub use expressions::eval;
+pub use jobs::Job;
+pub use outcomes::Outcome;
 pub use values::Scalars;
