@@ -3,3 +3,5 @@ pub mod Names
 pub mod Parts
 pub mod Statements
 pub mod Kept
+pub mod Rounds
+pub mod Walk

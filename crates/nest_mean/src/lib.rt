@@ -9,9 +9,11 @@ mod bodies;
 mod courses;
 mod events;
 mod expressions;
+mod iterations;
 mod jobs;
 mod outcomes;
 mod saved;
+mod stops;
 mod values;
 
 pub use arrays::array_of;
