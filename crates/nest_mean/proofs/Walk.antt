@@ -130,6 +130,22 @@ module _ (arrays : List Array) (opening : List ℤ) where
   pub no_items-is : {A : Type 0} (f : A → Item) (xs : List A) (i : ℕ) → length xs ≤ i → in_order (map f (drop i xs)) ≡ in_order []
   no_items-is f xs i over = ap (λ ys. in_order (map f ys)) (drop_all i xs over)
 
+  -- the item at place i of a list
+  module _ {A : Type 0} (f : A → Item) (xs : List A) (most : ℕ) (i : ℕ) (there : i < length xs) (here : A) (is : here ≡ get_or xs i here) (s₀ : List ℤ) (n₀ : ℕ) (m₀ : Memory) (s : List ℤ) (n : ℕ) (m : Memory)
+      (ahead : IsAhead (in_order (map f xs)) (in_order (map f (drop i xs))) most s₀ n₀ m₀ s n m) where
+    pub listed_room : n₀ + most * length (in_order (map f xs)).bodies < 2 ^ 64 → n + most * length (f here).bodies < 2 ^ 64
+    listed_room room = item_room (in_order (map f xs)) (in_order (map f (drop i xs))) (f here) (in_order (map f (drop (i + 1) xs))) most s₀ n₀ m₀ s n m (items_from-is f xs i there here is) ahead s n m room
+
+    pub listed_passes : (s' : List ℤ) (n' : ℕ) (m' : Memory) → Passes arrays (f here) most (Ok tt) s n m s' n' m' → IsAhead (in_order (map f xs)) (in_order (map f (drop (i + 1) xs))) most s₀ n₀ m₀ s' n' m'
+    listed_passes s' n' m' passed = item_passes (in_order (map f xs)) (in_order (map f (drop i xs))) (f here) (in_order (map f (drop (i + 1) xs))) most s₀ n₀ m₀ s n m (items_from-is f xs i there here is) ahead s' n' m' passed
+
+    pub listed_ends : (stopped : Stop) (s' : List ℤ) (n' : ℕ) (m' : Memory) → Passes arrays (f here) most (Err stopped) s n m s' n' m' → Passes arrays (in_order (map f xs)) most (Err stopped) s₀ n₀ m₀ s' n' m'
+    listed_ends stopped s' n' m' passed = item_ends (in_order (map f xs)) (in_order (map f (drop i xs))) (f here) (in_order (map f (drop (i + 1) xs))) most s₀ n₀ m₀ s n m (items_from-is f xs i there here is) ahead s' n' m' stopped passed
+
+  pub listed_over : {A : Type 0} (f : A → Item) (xs : List A) (most : ℕ) (i : ℕ) → length xs ≤ i → (s₀ : List ℤ) (n₀ : ℕ) (m₀ : Memory) (s : List ℤ) (n : ℕ) (m : Memory)
+      → IsAhead (in_order (map f xs)) (in_order (map f (drop i xs))) most s₀ n₀ m₀ s n m → Passes arrays (in_order (map f xs)) most (Ok tt) s₀ n₀ m₀ s n m
+  listed_over f xs most i over s₀ n₀ m₀ s n m ahead = ahead_ends (in_order (map f xs)) (in_order (map f (drop i xs))) most s₀ n₀ m₀ s n m (no_items-is f xs i over) ahead
+
   pub passes_as : (item item' : Item) (most : ℕ) (result : Result (Unit {0}) Stop) (s : List ℤ) (n : ℕ) (m : Memory) (s' : List ℤ) (n' : ℕ) (m' : Memory) → item' ≡ item → Passes arrays item most result s n m s' n' m' → Passes arrays item' most result s n m s' n' m'
   passes_as item item' most result s n m s' n' m' is passed = subst (λ i. Passes arrays i most result s n m s' n' m') (sym is) passed
 
