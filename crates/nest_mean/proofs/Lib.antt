@@ -5,3 +5,5 @@ pub mod Statements
 pub mod Kept
 pub mod Rounds
 pub mod Walk
+pub mod Sameness
+pub mod Whole
