@@ -1,0 +1,125 @@
+-- The same things in the words of turns: what a turn does on words or on a list of reads, against its plain tree.
+use Rattle.std.specs.Prelude.{◌≡◌, ℕ, zero, suc, ◌<◌, ◌-◌, ℤ, Bool, true, false, if◌then◌else◌, nat_lt, Option, Some, None, IsSome, List, [], ◌∷◌, ◌++◌, map, slice_index_or}
+use Rattle.nest_syntax.specs.declared.names.Line.{Line}
+use Rattle.nest_syntax.specs.declared.operators.Cause.{Cause}
+use Rattle.nest_syntax.specs.declared.tree.Program.{Program}
+use Rattle.nest_syntax.specs.Arrays.{Array, arrays_of, sizes_of, is_fixed, word_number, word_at}
+use Rattle.nest_syntax.specs.Turn.{Turn, Finished, Trapped, Load, Store, Op, Go}
+use Rattle.nest_syntax.specs.Reads.{Reading, Stop, Finishes, Traps, More, on_words, on_reads, accesses_on}
+use Rattle.nest_syntax.specs.Reads as reads
+use Rattle.nest_syntax.specs.Outcome.{after as program_after, ending}
+use Rattle.settle_law.specs.Trees.{Tree, turn}
+use Rattle.settle_law.specs.Trees as tree
+use Rattle.settle_law.specs.Cuts.{cut, plain, CanBeRead, HoldsFixed}
+use Rattle.settle_law.specs.Traces.{Access, Read, Write, Each, Conflict, Makes, Apart}
+use Rattle.settle_law.specs.Law.{accesses, after}
+use Rattle.settle_law.specs.Courses.{Nest, nest_of, iteration_at, reached, family_of, outcome}
+
+-- an access without the number of its iteration, and one with it
+abbrev pub bare : Access → reads.Access
+bare (Read k w value) = reads.Read w value
+bare (Write k w value) = reads.Write w value
+
+abbrev pub of_iteration : ℕ → reads.Access → Access
+of_iteration k (reads.Read w value) = Read k w value
+of_iteration k (reads.Write w value) = Write k w value
+
+-- the values read, in order
+abbrev pub values_read : List Access → List ℤ
+values_read [] = []
+values_read (Read k w value ∷ made) = value ∷ values_read made
+values_read (Write k w value ∷ made) = values_read made
+
+-- no word that is told is written, on any path that it can take
+abbrev pub KeepsFixed : List ℕ → (ℕ → Option ℤ) → Turn → Type 0
+KeepsFixed sizes fixed Finished = Unit {0}
+KeepsFixed sizes fixed (Trapped cause line) = Unit {0}
+KeepsFixed sizes fixed (Load array place go) = (value : ℤ) → CanBeRead (fixed (word_number sizes array place)) value → KeepsFixed sizes fixed (go value)
+KeepsFixed sizes fixed (Store array place value rest) = (fixed (word_number sizes array place) ≡ None) × KeepsFixed sizes fixed rest
+KeepsFixed sizes fixed (Op rest) = KeepsFixed sizes fixed rest
+KeepsFixed sizes fixed (Go rest) = KeepsFixed sizes fixed rest
+
+-- what is told of a word: its value where its array is `const`
+abbrev pub told : Bool → ℤ → Option ℤ
+told true value = Some value
+told false value = None
+
+-- what is told of each word that the turn reads or writes is right by its array, on any path that it can take
+abbrev pub TellsFixed : List Array → (ℕ → Option ℤ) → List ℤ → Turn → Type 0
+TellsFixed arrays fixed words Finished = Unit {0}
+TellsFixed arrays fixed words (Trapped cause line) = Unit {0}
+TellsFixed arrays fixed words (Load array place go) = (fixed (word_number (sizes_of arrays) array place) ≡ told (is_fixed arrays array) (word_at words (word_number (sizes_of arrays) array place))) × ((value : ℤ) → CanBeRead (fixed (word_number (sizes_of arrays) array place)) value → TellsFixed arrays fixed words (go value))
+TellsFixed arrays fixed words (Store array place value rest) = (fixed (word_number (sizes_of arrays) array place) ≡ None) × TellsFixed arrays fixed words rest
+TellsFixed arrays fixed words (Op rest) = TellsFixed arrays fixed words rest
+TellsFixed arrays fixed words (Go rest) = TellsFixed arrays fixed words rest
+
+-- whether a word, by its number over all arrays, is one of a `const` array
+abbrev pub is_fixed_word : List Array → ℕ → Bool
+is_fixed_word [] w = false
+is_fixed_word (a ∷ arrays) w = if nat_lt w a.size then a.fixed else is_fixed_word arrays (w - a.size)
+
+-- the `const` words of a job have their opening values
+abbrev pub fixed_in : List Array → List ℤ → ℕ → Option ℤ
+fixed_in arrays words w = told (is_fixed_word arrays w) (word_at words w)
+
+-- each access of the turn is inside its array, and no `const` array is written
+abbrev pub StaysInside : List Array → Turn → Type 0
+StaysInside arrays Finished = Unit {0}
+StaysInside arrays (Trapped cause line) = Unit {0}
+StaysInside arrays (Load array place go) = (place < slice_index_or (sizes_of arrays) array 0) × ((value : ℤ) → StaysInside arrays (go value))
+StaysInside arrays (Store array place value rest) = (place < slice_index_or (sizes_of arrays) array 0) × (is_fixed arrays array ≡ false) × StaysInside arrays rest
+StaysInside arrays (Op rest) = StaysInside arrays rest
+StaysInside arrays (Go rest) = StaysInside arrays rest
+
+-- A turn on the words is the plain tree of its cut turn on the words, in how it ends.
+abbrev pub TurnIsTree : Type 0
+TurnIsTree = (sizes : List ℕ) (fixed : ℕ → Option ℤ) (t : Turn) (words : List ℤ) → KeepsFixed sizes fixed t → HoldsFixed fixed words → on_words sizes t words ≡ turn (plain fixed (cut sizes 0 t)) words
+
+-- And in the accesses that it makes.
+abbrev pub AccessesAreTree : Type 0
+AccessesAreTree = (arrays : List Array) (fixed : ℕ → Option ℤ) (opening : List ℤ) (t : Turn) (k : ℕ) (words : List ℤ) → TellsFixed arrays fixed opening t → HoldsFixed fixed words → map (of_iteration k) (accesses_on arrays t words) ≡ accesses k (plain fixed (cut (sizes_of arrays) 0 t)) words
+
+-- the tree that a turn on reads leaves
+abbrev pub LeftAt : Stop → Tree → Type 0
+LeftAt Finishes rest = rest ≡ tree.Finished
+LeftAt (Traps cause line) rest = rest ≡ tree.Trapped cause line
+LeftAt More rest = (w : ℕ) × (go : ℤ → Tree) × (rest ≡ tree.Load w go)
+
+-- What a turn on reads makes, its plain tree makes, and is left where the turn ends.
+abbrev pub ReadsAreMade : Type 0
+ReadsAreMade = (arrays : List Array) (fixed : ℕ → Option ℤ) (words : List ℤ) (t : Turn) (k : ℕ) (read : List ℤ) → TellsFixed arrays fixed words t → (rest : Tree) × LeftAt (on_reads arrays words t read).stop rest × Makes (plain fixed (cut (sizes_of arrays) 0 t)) (map (of_iteration k) (on_reads arrays words t read).accesses) rest
+
+-- What a plain tree makes, the turn on the values read makes first. A part up to the end or a trap is all that it makes,
+-- and the turn ends so.
+pub record MadeAsRead (rest : Tree) (made : List Access) (reading : Reading) : Type 0 where
+  pub prefix : (others : List reads.Access) × (map bare made ++ others ≡ reading.accesses)
+  pub finished : rest ≡ tree.Finished → (map bare made ≡ reading.accesses) × (reading.stop ≡ Finishes)
+  pub trapped : (cause : Cause) (line : Line) → rest ≡ tree.Trapped cause line → (map bare made ≡ reading.accesses) × (reading.stop ≡ Traps cause line)
+
+abbrev pub MadeIsRead : Type 0
+MadeIsRead = (arrays : List Array) (fixed : ℕ → Option ℤ) (words : List ℤ) (t : Turn) (made : List Access) (rest : Tree) → TellsFixed arrays fixed words t → Makes (plain fixed (cut (sizes_of arrays) 0 t)) made rest → MadeAsRead rest made (on_reads arrays words t (values_read made))
+
+-- two turns are apart by what they make on any lists of reads
+abbrev pub ReadsApart : List Array → List ℤ → Turn → Turn → Type 0
+ReadsApart arrays words t other = (read others : List ℤ) → Each (λ a. Each (λ b. Conflict a b → ⊥) (map (of_iteration 1) (on_reads arrays words other others).accesses)) (map (of_iteration 0) (on_reads arrays words t read).accesses)
+
+-- Turns that are apart so have plain trees that are apart.
+abbrev pub ReadsApartAreApart : Type 0
+ReadsApartAreApart = (arrays : List Array) (fixed : ℕ → Option ℤ) (words : List ℤ) (t other : Turn) → TellsFixed arrays fixed words t → TellsFixed arrays fixed words other → ReadsApart arrays words t other → Apart (plain fixed (cut (sizes_of arrays) 0 t)) (plain fixed (cut (sizes_of arrays) 0 other))
+
+-- no iteration of the nest writes a word that is told
+abbrev pub NestKeepsFixed : (ℕ → Option ℤ) → Nest → Type 0
+NestKeepsFixed fixed nest = (k : ℕ) (i : ℕ × List ℤ) → iteration_at nest k ≡ Some i → KeepsFixed nest.sizes fixed (nest.turn i.0 i.1)
+
+-- The words that textual order reaches are those of the law, for the family of the nest, and the told words keep their
+-- values.
+abbrev pub ReachedIsAfter : Type 0
+ReachedIsAfter = (fixed : ℕ → Option ℤ) (nest : Nest) → HoldsFixed fixed nest.opening → NestKeepsFixed fixed nest → (n : ℕ) (words : List ℤ) → reached nest n ≡ Some words → (after (family_of fixed nest) nest.opening n ≡ Some words) × HoldsFixed fixed words
+
+-- And the other way round, up to the last iteration.
+abbrev pub AfterIsReached : Type 0
+AfterIsReached = (fixed : ℕ → Option ℤ) (nest : Nest) → HoldsFixed fixed nest.opening → NestKeepsFixed fixed nest → (n : ℕ) → ((k : ℕ) → k < n → IsSome (iteration_at nest k)) → after (family_of fixed nest) nest.opening n ≡ reached nest n
+
+-- For a program they are the words of its own definition.
+abbrev pub ProgramIsNest : Type 0
+ProgramIsNest = (program : Program) (words : List ℤ) → ((n : ℕ) → reached (nest_of program words) n ≡ program_after program words n) × (outcome (nest_of program words) ≡ ending program words)

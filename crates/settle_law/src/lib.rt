@@ -1,0 +1,76 @@
+//! The law that lets the steps of iterations be made out of order: traces that replay and are in order give what textual
+//! order gives. Each function here is a law: its contract says what holds, and it does nothing.
+//!
+//! `specs/` has the definitions on which engines are built: trees, cut turns, traces, claims, pieces of work, courses.
+#![tactic(auto)]
+
+ghost use Rattle.settle_law.specs.Law.{PartsAreTextual, FinishedPartsReach, FinishedPartsSettle, TrappedPartIsTextual};
+ghost use Rattle.settle_law.specs.Claims.{ClaimsPartIterations};
+ghost use Rattle.settle_law.specs.Reading.{TurnIsTree, AccessesAreTree, ReadsAreMade, MadeIsRead, ReadsApartAreApart, ReachedIsAfter, AfterIsReached, ProgramIsNest};
+
+/// In a trace that keeps the law's premises each part agrees with textual order, as far as textual order gets: it is
+/// what the iteration makes first there, and it is finished or trapped only where the iteration is.
+pub fn parts_are_textual()
+    ensures { PartsAreTextual }
+{}
+
+/// Where the parts up to an iteration are finished, textual order gets there.
+pub fn finished_parts_reach()
+    ensures { FinishedPartsReach }
+{}
+
+/// Where the parts up to an iteration are finished and the trace has nothing else, it settles to the words that textual
+/// order reaches there.
+pub fn finished_parts_settle()
+    ensures { FinishedPartsSettle }
+{}
+
+/// Where a part is trapped behind finished ones, textual order traps there in the same way.
+pub fn trapped_part_is_textual()
+    ensures { TrappedPartIsTextual }
+{}
+
+/// Iterations within claims that don't clash are apart.
+pub fn claims_part_iterations()
+    ensures { ClaimsPartIterations }
+{}
+
+/// A turn on the words ends as its plain tree does.
+pub fn turn_is_tree()
+    ensures { TurnIsTree }
+{}
+
+/// A turn on the words makes the accesses of its plain tree.
+pub fn accesses_are_tree()
+    ensures { AccessesAreTree }
+{}
+
+/// What a turn makes on a list of reads, its plain tree makes.
+pub fn reads_are_made()
+    ensures { ReadsAreMade }
+{}
+
+/// What a plain tree makes, its turn makes on the values read.
+pub fn made_is_read()
+    ensures { MadeIsRead }
+{}
+
+/// Turns that are apart on all lists of reads have plain trees that are apart.
+pub fn reads_apart_are_apart()
+    ensures { ReadsApartAreApart }
+{}
+
+/// The words that a nest reaches in textual order are those of the law for its family.
+pub fn reached_is_after()
+    ensures { ReachedIsAfter }
+{}
+
+/// The law's words for the family of a nest are those that it reaches, up to its last iteration.
+pub fn after_is_reached()
+    ensures { AfterIsReached }
+{}
+
+/// A program's nest reaches the words of the program, and has its outcome.
+pub fn program_is_nest()
+    ensures { ProgramIsNest }
+{}
