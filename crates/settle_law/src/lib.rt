@@ -6,6 +6,7 @@
 
 ghost use Rattle.settle_law.specs.Law.{PartsAreTextual, FinishedPartsReach, FinishedPartsSettle, TrappedPartIsTextual};
 ghost use Rattle.settle_law.specs.Claims.{ClaimsPartIterations};
+ghost use Rattle.settle_law.specs.Tasks.{StopsTell, PiecesBegin};
 ghost use Rattle.settle_law.specs.Reading.{TurnIsTree, AccessesAreTree, ReadsAreMade, MadeIsRead, ReadsApartAreApart, ReachedIsAfter, AfterIsReached, ProgramIsNest};
 
 /// In a trace that keeps the law's premises each part agrees with textual order, as far as textual order gets: it is
@@ -34,6 +35,18 @@ pub fn trapped_part_is_textual()
 pub fn claims_part_iterations()
     ensures { ClaimsPartIterations }
 {}
+
+/// The stop at which a piece stands says what its iteration still has to do behind it.
+pub fn stops_tell<P>()
+    ensures { StopsTell P }
+{
+}
+
+/// A piece that realises a cut turn has all of it left to do.
+pub fn pieces_begin<P>()
+    ensures { PiecesBegin P }
+{
+}
 
 /// A turn on the words ends as its plain tree does.
 pub fn turn_is_tree()
