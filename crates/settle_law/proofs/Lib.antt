@@ -6,3 +6,5 @@ pub mod Law
 pub mod Push
 pub mod Claims
 pub mod Tasks
+pub mod Turns
+pub mod Reading
