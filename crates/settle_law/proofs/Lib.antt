@@ -8,3 +8,5 @@ pub mod Claims
 pub mod Tasks
 pub mod Turns
 pub mod Reading
+pub mod Nests
+pub mod Cursors

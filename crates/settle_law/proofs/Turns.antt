@@ -51,7 +51,7 @@ module _ (sizes : List ℕ) (fixed : ℕ → Option ℤ) where
   turn_told None w f words can = refl
   turn_told (Some old) w f words can = ap (λ x. turn (f x) words) can
 
-  turn_is : (n : ℕ) (t : Turn) (words : List ℤ) → KeepsFixed sizes fixed t → HoldsFixed fixed words → on_words sizes t words ≡ turn (plain fixed (cut sizes n t)) words
+  pub turn_is : (n : ℕ) (t : Turn) (words : List ℤ) → KeepsFixed sizes fixed t → HoldsFixed fixed words → on_words sizes t words ≡ turn (plain fixed (cut sizes n t)) words
   turn_is n Finished words keeps holds = refl
   turn_is n (Trapped cause line) words keeps holds = refl
   turn_is n (Load array place go) words keeps holds =
@@ -73,7 +73,7 @@ module _ (arrays : List Array) (fixed : ℕ → Option ℤ) (opening : List ℤ)
       subst (λ p. map (of_iteration k) made ≡ accesses k (option_map_or f p (tree.Load w f)) words) (sym is) (same ∙ ap (λ y. accesses k (f y) words) (sym seen))
   accesses_told false o x w f words made is can same = subst (λ p. Read k w (word_at words w) ∷ map (of_iteration k) made ≡ accesses k (option_map_or f p (tree.Load w f)) words) (sym is) (ap (λ l. Read k w (word_at words w) ∷ l) same)
 
-  accesses_are : (n : ℕ) (t : Turn) (words : List ℤ) → TellsFixed arrays fixed opening t → HoldsFixed fixed words → map (of_iteration k) (accesses_on arrays t words) ≡ accesses k (plain fixed (cut (sizes_of arrays) n t)) words
+  pub accesses_are : (n : ℕ) (t : Turn) (words : List ℤ) → TellsFixed arrays fixed opening t → HoldsFixed fixed words → map (of_iteration k) (accesses_on arrays t words) ≡ accesses k (plain fixed (cut (sizes_of arrays) n t)) words
   accesses_are n Finished words tells holds = refl
   accesses_are n (Trapped cause line) words tells holds = refl
   accesses_are n (Load array place go) words tells holds =
