@@ -3,13 +3,8 @@ use Rattle.std.proofs.Common.{◌≡◌, ℕ, ℤ, Bool, true, ◌||◌, List, [
 use Rattle.std.proofs.lemmas.Bool.{or_left, or_right}
 use Rattle.settle_law.specs.Trees.{Tree, Finished, Trapped, Load, Store}
 use Rattle.settle_law.specs.Traces.{Access, Read, Write, Each, Conflict, Makes, Fits, Apart}
-use Rattle.settle_law.specs.Claims.{Claims, Within, claimed, Clash, ClaimsPartIterations}
+use Rattle.settle_law.specs.Claims.{Claims, Within, Covers, claimed, Clash, ClaimsPartIterations}
 use Rattle.settle_law.proofs.Members.{Has, each_at, each_of}
-
--- the access is claimed
-abbrev pub Covers : Claims → Access → Type 0
-Covers claims (Read k w value) = claims.read w ≡ true
-Covers claims (Write k w value) = claims.written w ≡ true
 
 pub covered : (claims : Claims) (tree : Tree) (made : List Access) (rest : Tree) → Within claims tree → Makes tree made rest → Each (Covers claims) made
 covered claims tree [] rest within m = tt

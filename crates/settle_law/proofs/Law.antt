@@ -8,7 +8,7 @@ use Rattle.nest_syntax.specs.Reads.{Ended, Completed, Stopped}
 use Rattle.nest_syntax.specs.Outcome.{completed}
 use Rattle.settle_law.specs.Trees.{Tree, Finished, Trapped, turn}
 use Rattle.settle_law.specs.Traces.{Access, iteration, Each, settle, Replays, Conflict, part, behind, Makes, Fits, IsFinished, IsTrapped, Apart}
-use Rattle.settle_law.specs.Law.{accesses, after, Lawful, FinishedParts, Textual, PartsAreTextual, FinishedPartsReach, FinishedPartsSettle, TrappedPartIsTextual}
+use Rattle.settle_law.specs.Law.{accesses, after, Lawful, FinishedParts, Textual, PartsAreTextual, FinishedPartsReach, FinishedPartsSettle, FinishedPartsAreWhole, TrappedPartIsTextual}
 use Rattle.settle_law.proofs.Members.{Has, each_at, each_of, each_behind, each_either, has_part, behind_has, behind_all, behind_none, part_is_own}
 use Rattle.settle_law.proofs.Commuting.{Clear, replays_behind_all}
 use Rattle.settle_law.proofs.Makings.{agrees, makes_append, makes_accesses, EndsIn}
@@ -129,6 +129,12 @@ settles family opening m words trace lawful n from finished below = go (carried 
   where
     go : Carried family opening m words trace lawful n → after family opening n ≡ Some (settle words trace)
     go (reached, at, replays, same) = at ∙ ap Some (ap (settle reached) (sym (behind_none n trace below)) ∙ same)
+
+pub wholes : FinishedPartsAreWhole
+wholes family opening m words trace lawful n finished k from below = go (carried family opening m words trace lawful k from (λ j ge lt. finished j ge (omega arith)))
+  where
+    go : Carried family opening m words trace lawful k → (reached : List ℤ) × (after family opening k ≡ Some reached) × (part k trace ≡ accesses k (family k) reached)
+    go (reached, at, replays, same) = (reached, at, ((textual family opening m words trace lawful k reached from at).finished (finished k from below)).0)
 
 pub traps : TrappedPartIsTextual
 traps family opening m words trace lawful n cause line from finished trapped = go (carried family opening m words trace lawful n from finished)

@@ -14,7 +14,8 @@ use Rattle.settle_law.specs.Trees as tree
 use Rattle.settle_law.specs.Cuts.{Cut, Pauses, cut, plain, pausing, is_full, one_more, CanBeRead, HoldsFixed}
 use Rattle.settle_law.specs.Traces.{Access, Read, Write}
 use Rattle.settle_law.specs.Law.{accesses}
-use Rattle.settle_law.specs.Reading.{of_iteration, KeepsFixed, TellsFixed, told, is_fixed_word, fixed_in, StaysInside, TurnIsTree, AccessesAreTree}
+use Rattle.settle_law.specs.Reading.{of_iteration, KeepsFixed, TellsFixed, told, is_fixed_word, fixed_in, StaysInside, TurnIsTree, AccessesAreTree, InsideTurnsTell}
+use Rattle.settle_law.specs.Tasks.{System, Realises}
 use Rattle.settle_law.proofs.Commuting.{other_word}
 
 pub plain_pausing : (fixed : ℕ → Option ℤ) (due : Bool) (c : Cut) → plain fixed (pausing due c) ≡ plain fixed c
@@ -126,3 +127,19 @@ holds_opening arrays words w old is = by_test (is_fixed_word arrays w) is
     by_test : (b : Bool) → told b (word_at words w) ≡ Some old → word_at words w ≡ old
     by_test true same = let s : Some (word_at words w) ≡ Some old = same in cc
     by_test false same = absurd (let no : None ≡ Some old = same in cc)
+
+pub inside_turns_tell : InsideTurnsTell
+inside_turns_tell arrays words = (holds_opening arrays words, λ t inside. tells-from_inside arrays words t inside)
+
+-- a turn whose cut turn is realised writes no word that is told
+pub keeps-from_realises : {P : Type 0} (sys : System P) (sizes : List ℕ) (n : ℕ) (t : Turn) (piece : P) → Realises sys (cut sizes n t) piece → KeepsFixed sizes sys.fixed t
+keeps-from_realises sys sizes n Finished piece r = tt
+keeps-from_realises sys sizes n (Trapped cause line) piece r = tt
+keeps-from_realises sys sizes n (Load array place go) piece (next, stop, more) = λ value can. keeps-from_realises sys sizes 0 (go value) (next value) (more value can).1
+keeps-from_realises sys sizes n (Store array place value rest) piece (next, stop, free, falls, more) = (free, keeps-from_realises sys sizes 0 rest next more)
+keeps-from_realises {P} sys sizes n (Op rest) piece r = by_pause (is_full n) piece (λ p more. keeps-from_realises sys sizes (one_more n) rest p more) r
+  where
+    by_pause : (due : Bool) (p : P) → ((q : P) → Realises sys (cut sizes (one_more n) rest) q → KeepsFixed sizes sys.fixed rest) → Realises sys (pausing due (cut sizes (one_more n) rest)) p → KeepsFixed sizes sys.fixed rest
+    by_pause true p go (next, stop, falls, more) = go next more
+    by_pause false p go more = go p more
+keeps-from_realises sys sizes n (Go rest) piece (next, stop, falls, more) = keeps-from_realises sys sizes 0 rest next more

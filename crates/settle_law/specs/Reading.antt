@@ -1,5 +1,6 @@
 -- The same things in the words of turns: what a turn does on words or on a list of reads, against its plain tree.
-use Rattle.std.specs.Prelude.{◌≡◌, ℕ, zero, suc, ◌<◌, ◌-◌, ℤ, Bool, true, false, if◌then◌else◌, nat_lt, Option, Some, None, IsSome, List, [], ◌∷◌, ◌++◌, map, slice_index_or}
+use Rattle.std.specs.Prelude.{◌≡◌, ℕ, zero, suc, ◌<◌, ◌-◌, ℤ, Bool, true, false, if◌then◌else◌, nat_lt, Option, Some, None, IsSome, ◌↔◌, List, [], ◌∷◌, ◌++◌, map, slice_index_or}
+use Rattle.std.specs.Option.{option_map}
 use Rattle.nest_syntax.specs.declared.names.Line.{Line}
 use Rattle.nest_syntax.specs.declared.operators.Cause.{Cause}
 use Rattle.nest_syntax.specs.declared.tree.Program.{Program}
@@ -7,13 +8,15 @@ use Rattle.nest_syntax.specs.Arrays.{Array, arrays_of, sizes_of, is_fixed, word_
 use Rattle.nest_syntax.specs.Turn.{Turn, Finished, Trapped, Load, Store, Op, Go}
 use Rattle.nest_syntax.specs.Reads.{Reading, Stop, Finishes, Traps, More, on_words, on_reads, accesses_on}
 use Rattle.nest_syntax.specs.Reads as reads
-use Rattle.nest_syntax.specs.Outcome.{after as program_after, ending}
+use Rattle.nest_syntax.specs.Outcome.{after as program_after, ending, iteration_turn, events_of, accesses_of}
 use Rattle.settle_law.specs.Trees.{Tree, turn}
 use Rattle.settle_law.specs.Trees as tree
 use Rattle.settle_law.specs.Cuts.{cut, plain, CanBeRead, HoldsFixed}
 use Rattle.settle_law.specs.Traces.{Access, Read, Write, Each, Conflict, Makes, Apart}
 use Rattle.settle_law.specs.Law.{accesses, after}
-use Rattle.settle_law.specs.Courses.{Nest, nest_of, iteration_at, reached, family_of, outcome}
+use Rattle.settle_law.specs.Claims.{Claims, Within, Covers}
+use Rattle.settle_law.specs.Tasks.{System, Realises}
+use Rattle.settle_law.specs.Courses.{Nest, nest_of, events, iteration_at, reached, family_of, outcome}
 
 -- an access without the number of its iteration, and one with it
 abbrev pub bare : Access → reads.Access
@@ -103,9 +106,28 @@ MadeIsRead = (arrays : List Array) (fixed : ℕ → Option ℤ) (words : List �
 abbrev pub ReadsApart : List Array → List ℤ → Turn → Turn → Type 0
 ReadsApart arrays words t other = (read others : List ℤ) → Each (λ a. Each (λ b. Conflict a b → ⊥) (map (of_iteration 1) (on_reads arrays words other others).accesses)) (map (of_iteration 0) (on_reads arrays words t read).accesses)
 
--- Turns that are apart so have plain trees that are apart.
+-- It is the same for turns as for their plain trees.
 abbrev pub ReadsApartAreApart : Type 0
-ReadsApartAreApart = (arrays : List Array) (fixed : ℕ → Option ℤ) (words : List ℤ) (t other : Turn) → TellsFixed arrays fixed words t → TellsFixed arrays fixed words other → ReadsApart arrays words t other → Apart (plain fixed (cut (sizes_of arrays) 0 t)) (plain fixed (cut (sizes_of arrays) 0 other))
+ReadsApartAreApart = (arrays : List Array) (fixed : ℕ → Option ℤ) (words : List ℤ) (t other : Turn) → TellsFixed arrays fixed words t → TellsFixed arrays fixed words other → ReadsApart arrays words t other ↔ Apart (plain fixed (cut (sizes_of arrays) 0 t)) (plain fixed (cut (sizes_of arrays) 0 other))
+
+-- the claims cover each access that the turn makes on any list of reads
+abbrev pub ReadsWithin : List Array → List ℤ → Claims → Turn → Type 0
+ReadsWithin arrays words claims t = (read : List ℤ) → Each (Covers claims) (map (of_iteration 0) (on_reads arrays words t read).accesses)
+
+-- Such claims hold the plain tree, and no others do.
+abbrev pub ReadsWithinAreWithin : Type 0
+ReadsWithinAreWithin = (arrays : List Array) (fixed : ℕ → Option ℤ) (words : List ℤ) (claims : Claims) (t : Turn) → TellsFixed arrays fixed words t → ReadsWithin arrays words claims t ↔ Within claims (plain fixed (cut (sizes_of arrays) 0 t))
+
+-- For a turn that stays inside its arrays, the opening words tell rightly.
+abbrev pub InsideTurnsTell : Type 0
+InsideTurnsTell = (arrays : List Array) (words : List ℤ) → HoldsFixed (fixed_in arrays words) words × ((t : Turn) → StaysInside arrays t → TellsFixed arrays (fixed_in arrays words) words t)
+
+-- A turn that tells rightly writes no word that is told, and neither does one whose cut turn is realised.
+abbrev pub TellingTurnsKeep : Type 0
+TellingTurnsKeep = (arrays : List Array) (fixed : ℕ → Option ℤ) (words : List ℤ) (t : Turn) → TellsFixed arrays fixed words t → KeepsFixed (sizes_of arrays) fixed t
+
+abbrev pub RealisedTurnsKeep : Type 0 → Type 0
+RealisedTurnsKeep P = (sys : System P) (sizes : List ℕ) (t : Turn) (piece : P) → Realises sys (cut sizes 0 t) piece → KeepsFixed sizes sys.fixed t
 
 -- no iteration of the nest writes a word that is told
 abbrev pub NestKeepsFixed : (ℕ → Option ℤ) → Nest → Type 0
@@ -120,6 +142,16 @@ ReachedIsAfter = (fixed : ℕ → Option ℤ) (nest : Nest) → HoldsFixed fixed
 abbrev pub AfterIsReached : Type 0
 AfterIsReached = (fixed : ℕ → Option ℤ) (nest : Nest) → HoldsFixed fixed nest.opening → NestKeepsFixed fixed nest → (n : ℕ) → ((k : ℕ) → k < n → IsSome (iteration_at nest k)) → after (family_of fixed nest) nest.opening n ≡ reached nest n
 
--- For a program they are the words of its own definition.
+-- A program and its nest: what its iterations do, the words that it reaches, its events and its outcome.
+pub record SameAsNest (program : Program) (words : List ℤ) : Type 0 where
+  pub turns : (k : ℕ) → iteration_turn program words k ≡ option_map (λ (i : ℕ × List ℤ). (nest_of program words).turn i.0 i.1) (iteration_at (nest_of program words) k)
+  pub reaches : (n : ℕ) → program_after program words n ≡ reached (nest_of program words) n
+  pub all_events : events_of program words ≡ events (nest_of program words)
+  pub ends : ending program words ≡ outcome (nest_of program words)
+
 abbrev pub ProgramIsNest : Type 0
-ProgramIsNest = (program : Program) (words : List ℤ) → ((n : ℕ) → reached (nest_of program words) n ≡ program_after program words n) × (outcome (nest_of program words) ≡ ending program words)
+ProgramIsNest = (program : Program) (words : List ℤ) → SameAsNest program words
+
+-- The accesses of an iteration of a program in textual order are those of the law for the family of its nest.
+abbrev pub ProgramAccesses : Type 0
+ProgramAccesses = (program : Program) (words : List ℤ) (fixed : ℕ → Option ℤ) (k : ℕ) (t : Turn) (before : List ℤ) → iteration_turn program words k ≡ Some t → TellsFixed (arrays_of program.decls) fixed words t → program_after program words k ≡ Some before → HoldsFixed fixed before → option_map (map (of_iteration k)) (accesses_of program words k) ≡ Some (accesses k (family_of fixed (nest_of program words) k) before)

@@ -4,11 +4,11 @@
 //! `specs/` has the definitions on which engines are built: trees, cut turns, traces, claims, pieces of work, courses.
 #![tactic(auto)]
 
-ghost use Rattle.settle_law.specs.Law.{PartsAreTextual, FinishedPartsReach, FinishedPartsSettle, TrappedPartIsTextual};
+ghost use Rattle.settle_law.specs.Law.{PartsAreTextual, FinishedPartsReach, FinishedPartsSettle, FinishedPartsAreWhole, TrappedPartIsTextual};
 ghost use Rattle.settle_law.specs.Claims.{ClaimsPartIterations};
 ghost use Rattle.settle_law.specs.Tasks.{StopsTell, PiecesBegin};
 ghost use Rattle.settle_law.specs.Courses.{EventsTell, CursorsBegin, TrappedIterationIsOutcome};
-ghost use Rattle.settle_law.specs.Reading.{TurnIsTree, AccessesAreTree, ReadsAreMade, MadeIsRead, ReadsApartAreApart, ReachedIsAfter, AfterIsReached, ProgramIsNest};
+ghost use Rattle.settle_law.specs.Reading.{TurnIsTree, AccessesAreTree, ReadsAreMade, MadeIsRead, ReadsApartAreApart, ReadsWithinAreWithin, InsideTurnsTell, TellingTurnsKeep, RealisedTurnsKeep, ReachedIsAfter, AfterIsReached, ProgramIsNest, ProgramAccesses};
 
 /// In a trace that keeps the law's premises each part agrees with textual order, as far as textual order gets: it is
 /// what the iteration makes first there, and it is finished or trapped only where the iteration is.
@@ -26,6 +26,12 @@ pub fn finished_parts_reach()
 pub fn finished_parts_settle()
     ensures { FinishedPartsSettle }
 {}
+
+/// Where the parts up to an iteration are finished, each is all that textual order makes there.
+pub fn finished_parts_are_whole()
+    ensures { FinishedPartsAreWhole }
+{
+}
 
 /// Where a part is trapped behind finished ones, textual order traps there in the same way.
 pub fn trapped_part_is_textual()
@@ -69,10 +75,34 @@ pub fn made_is_read()
     ensures { MadeIsRead }
 {}
 
-/// Turns that are apart on all lists of reads have plain trees that are apart.
+/// Turns are apart on all lists of reads exactly where their plain trees are apart.
 pub fn reads_apart_are_apart()
     ensures { ReadsApartAreApart }
 {}
+
+/// Claims cover what a turn makes on all lists of reads exactly where they hold its plain tree.
+pub fn reads_within_are_within()
+    ensures { ReadsWithinAreWithin }
+{
+}
+
+/// Of a turn that stays inside its arrays, the opening words tell rightly which words are `const`.
+pub fn inside_turns_tell()
+    ensures { InsideTurnsTell }
+{
+}
+
+/// A turn of which the `const` words are told rightly writes none of them.
+pub fn telling_turns_keep()
+    ensures { TellingTurnsKeep }
+{
+}
+
+/// A turn whose cut turn is realised writes no `const` word.
+pub fn realised_turns_keep<P>()
+    ensures { RealisedTurnsKeep P }
+{
+}
 
 /// The words that a nest reaches in textual order are those of the law for its family.
 pub fn reached_is_after()
@@ -84,9 +114,14 @@ pub fn after_is_reached()
     ensures { AfterIsReached }
 {}
 
-/// A program's nest reaches the words of the program, and has its outcome.
+/// A program's nest has the turns, the events and the outcome of the program, and reaches its words.
 pub fn program_is_nest()
     ensures { ProgramIsNest }
+{}
+
+/// The accesses of a program's iterations in textual order are those of the law for its nest.
+pub fn program_accesses()
+    ensures { ProgramAccesses }
 {}
 
 /// The event at which a cursor stands says what of the nest lies behind it.
