@@ -64,18 +64,25 @@ module _ {B C : Type 0} (nest : Nest) (tree : B → Cut) (event : C → Event B 
 
   -- an iteration
   at_iteration : (body : ℕ) (scalars : List ℤ) (rest : Course) (b : B) (after : C) → length (iterations_among passed) ≡ next → passed ++ events_left nest (course.Iterate body scalars rest) (reached nest next) ≡ events nest → ((words : List ℤ) → reached nest next ≡ Some words → ending_from nest.sizes nest.turn (course.Iterate body scalars rest) next words ≡ outcome nest) → tree b ≡ cut_at nest (body, scalars) → Follows nest tree event after rest → AtEvent nest tree event passed next (Iterate b after)
-  at_iteration body scalars rest b after counts all ends same follows = ((body, scalars), mine, same, record {
-    left = rest;
-    follows = follows;
-    counts = ap length (iterations_append passed (Iterates body scalars ∷ [])) ∙ length-append (iterations_among passed) ((body, scalars) ∷ []) ∙ (let more : length (iterations_among passed) + 1 ≡ suc next = omega (arith, counts) in more);
-    all_events = more_passed (Iterates body scalars) (events_left nest rest (reached nest (suc next))) (subst (λ o. passed ++ Iterates body scalars ∷ events_left nest rest o ≡ events nest) (sym then) all);
-    ends = λ words e. by_words (reached nest next) words refl (sym then ∙ e);
-  })
+  at_iteration body scalars rest b after counts all ends same follows = (
+    (body, scalars),
+    mine,
+    same,
+    record {
+      left = rest;
+      follows = follows;
+      counts = ap length (iterations_append passed (Iterates body scalars ∷ [])) ∙ length-append (iterations_among passed) ((body, scalars) ∷ []) ∙ (let more : length (iterations_among passed) + 1 ≡ suc next = omega (arith, counts) in more);
+      all_events = more_passed (Iterates body scalars) (events_left nest rest (reached nest (suc next))) (subst (λ o. passed ++ Iterates body scalars ∷ events_left nest rest o ≡ events nest) (sym then) all);
+      ends = λ words e. by_words (reached nest next) words refl (sym then ∙ e);
+    },
+  )
     where
       mine : iteration_at nest next ≡ Some (body, scalars)
       mine = ap (λ l. slice_get (iterations_among l) next) (sym all) ∙ ap (λ l. slice_get l next) (iterations_append passed (events_left nest (course.Iterate body scalars rest) (reached nest next))) ∙ subst (λ n. slice_get (iterations_among passed ++ iterations_among (events_left nest (course.Iterate body scalars rest) (reached nest next))) n ≡ Some (body, scalars)) counts (at_seam (iterations_among passed) (body, scalars) _)
+
       then : reached nest (suc next) ≡ option_and_then (λ words. completed (on_words nest.sizes (nest.turn body scalars) words)) (reached nest next)
       then = ap (λ o. option_and_then (λ words. option_and_then (λ (i : ℕ × List ℤ). completed (on_words nest.sizes (nest.turn i.0 i.1) words)) o) (reached nest next)) mine
+
       by_words : (o : Option (List ℤ)) (words : List ℤ) → reached nest next ≡ o → option_and_then (λ w. completed (on_words nest.sizes (nest.turn body scalars) w)) o ≡ Some words → ending_from nest.sizes nest.turn rest (suc next) words ≡ outcome nest
       by_words None words is e = absurd (let no : None ≡ Some words = e in cc)
       by_words (Some before) words is e = sym (ap (λ x. outcome_of.behind next x (ending_from nest.sizes nest.turn rest (suc next))) (well (on_words nest.sizes (nest.turn body scalars) before) words e)) ∙ ends before is

@@ -11,3 +11,4 @@ pub mod Reading
 pub mod Nests
 pub mod Cursors
 pub mod Seats
+pub mod Samples

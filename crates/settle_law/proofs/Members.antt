@@ -66,6 +66,7 @@ part_has k b (a ∷ trace) has = ⊎_elim
   where
     later : Has b trace × (iteration b ≡ k) → Has b (a ∷ trace) × (iteration b ≡ k)
     later h = (inr h.0, h.1)
+
     head : iteration a ≡ k → (a ≡ b) ⊎ Has b (part k trace) → (Has b (part k trace) → Has b trace × (iteration b ≡ k)) → Has b (a ∷ trace) × (iteration b ≡ k)
     head mine (inl same) more = (inl same, sym (ap iteration same) ∙ mine)
     head mine (inr others) more = later (more others)
@@ -79,6 +80,7 @@ behind_has k b (a ∷ trace) has = ⊎_elim
   where
     later : Has b trace × (k ≤ iteration b) → Has b (a ∷ trace) × (k ≤ iteration b)
     later h = (inr h.0, h.1)
+
     head : k ≤ iteration a → (a ≡ b) ⊎ Has b (behind k trace) → (Has b (behind k trace) → Has b trace × (k ≤ iteration b)) → Has b (a ∷ trace) × (k ≤ iteration b)
     head kept (inl same) more = (inl same, subst (λ x. k ≤ iteration x) same kept)
     head kept (inr others) more = later (more others)

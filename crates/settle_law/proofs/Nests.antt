@@ -49,9 +49,10 @@ module _ (fixed : ℕ → Option ℤ) (nest : Nest) (opening_holds : HoldsFixed 
   reached_after (suc n) last e = go (reaching (step_of nest) (reached nest n) (iteration_at nest n) last e) (λ words at. reached_after n words at)
     where
       go : Reaching (step_of nest) (reached nest n) (iteration_at nest n) last → ((words : List ℤ) → reached nest n ≡ Some words → (after (family_of fixed nest) nest.opening n ≡ Some words) × HoldsFixed fixed words) → (after (family_of fixed nest) nest.opening (suc n) ≡ Some last) × HoldsFixed fixed last
-      go (words, i, before, at, ends) more =
-          (ap (λ o. option_and_then (λ w. completed (turn (family_of fixed nest n) w)) o) (more words before).0 ∙ ap completed (family_turn n i words at (more words before).1 ∙ ends),
-          subst (HoldsAtEnd nest.sizes fixed) ends (holds_at_end nest.sizes fixed (nest.turn i.0 i.1) words (keeps n i at) (more words before).1))
+      go (words, i, before, at, ends) more = (
+        ap (λ o. option_and_then (λ w. completed (turn (family_of fixed nest n) w)) o) (more words before).0 ∙ ap completed (family_turn n i words at (more words before).1 ∙ ends),
+        subst (HoldsAtEnd nest.sizes fixed) ends (holds_at_end nest.sizes fixed (nest.turn i.0 i.1) words (keeps n i at) (more words before).1),
+      )
 
   pub after_reached : (n : ℕ) → ((k : ℕ) → k < n → IsSome (iteration_at nest k)) → after (family_of fixed nest) nest.opening n ≡ reached nest n
   after_reached zero some = refl
@@ -147,6 +148,7 @@ module _ (sizes : List ℕ) (turn_at : ℕ → List ℤ → Turn) where
     where
       later : walked (its rest (completed (step (body, scalars) opening))) (completed (step (body, scalars) opening)) n ≡ Some words
       later = sym (walked_first (body, scalars) (its rest (completed (step (body, scalars) opening))) (Some opening) n) ∙ e
+
       by_end : (ended : Ended) → step (body, scalars) opening ≡ ended → ((behind : List ℤ) → completed (step (body, scalars) opening) ≡ Some behind → ending_from sizes turn_at rest (suc k) behind ≡ TrappedAt (place_of_trap cause line (suc k + n) false)) → ending_from sizes turn_at (Iterate body scalars rest) k opening ≡ TrappedAt (place_of_trap cause line (k + suc n) false)
       by_end (Completed behind) is more = ap (λ x. outcome_of.behind k x (ending_from sizes turn_at rest (suc k))) is ∙ more behind (ap completed is) ∙ ap (λ m. TrappedAt (place_of_trap cause line m false)) (omega arith)
       by_end (Stopped why place behind) is more = absurd (let none : completed (step (body, scalars) opening) ≡ None = ap completed is in let gone : walked (its rest None) None n ≡ Some words = subst (λ o. walked (its rest o) o n ≡ Some words) none later in let no : None ≡ Some words = sym (walked_none (its rest None) n) ∙ gone in cc)

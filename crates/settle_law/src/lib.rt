@@ -30,8 +30,7 @@ pub fn finished_parts_settle()
 /// Where the parts up to an iteration are finished, each is all that textual order makes there.
 pub fn finished_parts_are_whole()
     ensures { FinishedPartsAreWhole }
-{
-}
+{}
 
 /// Where a part is trapped behind finished ones, textual order traps there in the same way.
 pub fn trapped_part_is_textual()
@@ -46,14 +45,12 @@ pub fn claims_part_iterations()
 /// The stop at which a piece stands says what its iteration still has to do behind it.
 pub fn stops_tell<P>()
     ensures { StopsTell P }
-{
-}
+{}
 
 /// A piece that realises a cut turn has all of it left to do.
 pub fn pieces_begin<P>()
     ensures { PiecesBegin P }
-{
-}
+{}
 
 /// A turn on the words ends as its plain tree does.
 pub fn turn_is_tree()
@@ -83,26 +80,22 @@ pub fn reads_apart_are_apart()
 /// Claims cover what a turn makes on all lists of reads exactly where they hold its plain tree.
 pub fn reads_within_are_within()
     ensures { ReadsWithinAreWithin }
-{
-}
+{}
 
 /// Of a turn that stays inside its arrays, the opening words tell rightly which words are `const`.
 pub fn inside_turns_tell()
     ensures { InsideTurnsTell }
-{
-}
+{}
 
 /// A turn of which the `const` words are told rightly writes none of them.
 pub fn telling_turns_keep()
     ensures { TellingTurnsKeep }
-{
-}
+{}
 
 /// A turn whose cut turn is realised writes no `const` word.
 pub fn realised_turns_keep<P>()
     ensures { RealisedTurnsKeep P }
-{
-}
+{}
 
 /// The words that a nest reaches in textual order are those of the law for its family.
 pub fn reached_is_after()
@@ -127,17 +120,14 @@ pub fn program_accesses()
 /// The event at which a cursor stands says what of the nest lies behind it.
 pub fn events_tell<B, C>()
     ensures { EventsTell B C }
-{
-}
+{}
 
 /// A cursor that follows the course of a nest has all of it before it.
 pub fn cursors_begin<B, C>()
     ensures { CursorsBegin B C }
-{
-}
+{}
 
 /// An iteration that traps where textual order reaches it is the outcome.
 pub fn trapped_iteration_is_outcome()
     ensures { TrappedIterationIsOutcome }
-{
-}
+{}

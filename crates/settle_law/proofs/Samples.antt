@@ -1,0 +1,77 @@
+-- The definitions, evaluated on small traces and turns.
+use Rattle.std.proofs.Common.{◌≡◌, ℕ, zero, suc, ◌+◌, ◌≤◌, ℤ, pos, Option, Some, None, List, [], ◌∷◌, refl, arith}
+use Rattle.nest_syntax.specs.Reads.{Completed}
+use Rattle.nest_syntax.specs.Turn.{Turn}
+use Rattle.nest_syntax.specs.Turn as turn
+use Rattle.settle_law.specs.Trees.{Tree, Finished, Load, Store}
+use Rattle.settle_law.specs.Cuts.{Cut, cut, plain}
+use Rattle.settle_law.specs.Cuts as cut
+use Rattle.settle_law.specs.Traces.{Access, Read, Write, settle, Replays, InOrder, part, IsFinished}
+use Rattle.settle_law.specs.Law.{after, accesses}
+
+-- iteration 0 writes word 0, iteration 1 reads it and writes word 1
+abbrev family : ℕ → Tree
+family zero = Store 0 (pos 5) Finished
+family (suc k) = Load 0 (λ value. Store 1 (pos 6) Finished)
+
+abbrev in_turn : List Access
+in_turn = Write 0 0 (pos 5) ∷ Read 1 0 (pos 5) ∷ Write 1 1 (pos 6) ∷ []
+
+abbrev two_zeros : List ℤ
+two_zeros = pos 0 ∷ pos 0 ∷ []
+
+-- in order: it replays, both parts are finished, and it settles to the words of textual order
+in_turn-replays : Replays two_zeros in_turn
+in_turn-replays = (tt, (refl, (tt, tt)))
+
+in_turn-in_order : InOrder in_turn
+in_turn-in_order = ((λ c. omega arith, (λ c. omega arith, tt)), ((λ c. omega arith, tt), (tt, tt)))
+
+in_turn-settles : settle two_zeros in_turn ≡ pos 5 ∷ pos 6 ∷ []
+in_turn-settles = refl
+
+in_turn-is_textual : after family two_zeros 2 ≡ Some (settle two_zeros in_turn)
+in_turn-is_textual = refl
+
+in_turn-part : part 1 in_turn ≡ accesses 1 (family 1) (pos 5 ∷ pos 0 ∷ [])
+in_turn-part = refl
+
+in_turn-finished : IsFinished (family 1) (part 1 in_turn)
+in_turn-finished = (refl, (refl, refl, refl))
+
+-- out of order: iteration 1 reads before iteration 0 writes; the trace replays, and settles to the same words
+abbrev too_early : List Access
+too_early = Read 1 0 (pos 0) ∷ Write 0 0 (pos 5) ∷ Write 1 1 (pos 6) ∷ []
+
+too_early-replays : Replays two_zeros too_early
+too_early-replays = (refl, (tt, (tt, tt)))
+
+too_early-is_not_in_order : InOrder too_early → ⊥
+too_early-is_not_in_order order = let le : 1 ≤ 0 = order.0.0 refl in omega arith
+
+-- n operations before what follows
+abbrev operations : ℕ → Turn → Turn
+operations zero rest = rest
+operations (suc n) rest = turn.Op (operations n rest)
+
+-- a pause comes behind the 32nd operation and not before, also where a stop stands there anyway
+no_pause : cut [] 0 (operations 31 turn.Finished) ≡ cut.Finished
+no_pause = refl
+
+one_pause : cut [] 0 (operations 32 turn.Finished) ≡ cut.Pauses cut.Finished
+one_pause = refl
+
+two_pauses : cut [] 0 (operations 32 (turn.Go (operations 32 turn.Finished))) ≡ cut.Pauses (cut.Pauses (cut.Pauses cut.Finished))
+two_pauses = refl
+
+-- a read starts the count anew
+count_anew : cut (4 ∷ []) 0 (operations 20 (turn.Load 0 3 (λ value. operations 20 turn.Finished))) ≡ cut.Reads 3 (λ value. cut.Finished)
+count_anew = refl
+
+-- the read of a `const` word is gone in the plain tree, and so is a pause
+abbrev told : ℕ → Option ℤ
+told zero = Some (pos 7)
+told (suc w) = None
+
+plain_sample : plain told (cut.Reads 0 (λ index. cut.Pauses (cut.Reads 1 (λ value. cut.Writes 1 index cut.Finished)))) ≡ Load 1 (λ value. Store 1 (pos 7) Finished)
+plain_sample = refl
