@@ -1,10 +1,10 @@
 -- Claims that hold two trees and don't clash: no accesses of theirs conflict.
-use Rattle.std.proofs.Common.{◌≡◌, ℕ, ℤ, Bool, true, ◌||◌, List, [], ◌∷◌, refl, sym, ap, ◌∙◌, subst, inl, inr}
+use Rattle.std.proofs.Common.{◌≡◌, true, List, [], ◌∷◌, subst, inl, inr}
 use Rattle.std.proofs.lemmas.Bool.{or_left, or_right}
 use Rattle.settle_law.specs.Trees.{Tree, Finished, Trapped, Load, Store}
-use Rattle.settle_law.specs.Traces.{Access, Read, Write, Each, Conflict, Makes, Fits, Apart}
-use Rattle.settle_law.specs.Claims.{Claims, Within, Covers, claimed, Clash, ClaimsPartIterations}
-use Rattle.settle_law.proofs.Members.{Has, each_at, each_of}
+use Rattle.settle_law.specs.Traces.{Access, Read, Write, Each, Conflict, Makes}
+use Rattle.settle_law.specs.Claims.{Claims, Within, Covers, Clash, ClaimsPartIterations}
+use Rattle.settle_law.proofs.Members.{each_at, each_of}
 
 pub covered : (claims : Claims) (tree : Tree) (made : List Access) (rest : Tree) → Within claims tree → Makes tree made rest → Each (Covers claims) made
 covered claims tree [] rest within m = tt

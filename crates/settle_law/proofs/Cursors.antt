@@ -1,16 +1,14 @@
 -- What the event of a cursor says: one step of a course that is followed.
-use Rattle.std.proofs.Common.{◌≡◌, ℕ, zero, suc, ◌+◌, ◌<◌, ◌≤◌, ℤ, true, Option, Some, None, List, [], ◌∷◌, ◌++◌, length, slice_get, refl, sym, ap, ◌∙◌, subst, arith, append_assoc, append-nil, length-append}
+use Rattle.std.proofs.Common.{◌≡◌, ℕ, suc, ◌+◌, ℤ, Option, Some, None, List, [], ◌∷◌, ◌++◌, length, slice_get, refl, sym, ap, ◌∙◌, subst, arith, append_assoc, append-nil, length-append}
 use Rattle.std.proofs.lemmas.Option.{slice_get_past}
 use Rattle.std.specs.Option.{option_and_then, option_map_or}
-use Rattle.nest_syntax.specs.declared.names.Line.{Line}
-use Rattle.nest_syntax.specs.declared.operators.Cause.{Cause}
-use Rattle.nest_syntax.specs.Reads.{Ended, Completed, Stopped, on_words}
+use Rattle.nest_syntax.specs.Reads.{on_words}
 use Rattle.nest_syntax.specs.Course.{Purpose, Course}
 use Rattle.nest_syntax.specs.Course as course
 use Rattle.nest_syntax.specs.Outcome.{Ending, Done, TrappedAt, place_of_trap, Event as Passed, Computes, Drains, Iterates, Closes, Ends, completed, ending_from, events_from, iterations_among}
 use Rattle.nest_syntax.specs.Outcome as outcome_of
 use Rattle.settle_law.specs.Cuts.{Cut}
-use Rattle.settle_law.specs.Courses.{Trap, Event, End, Scalar, Drain, Iterate, Close, Nest, events_left, events, outcome, iteration_at, reached, cut_at, trap_of, Follows, Behind, TrapsThere, Onward, AtEvent, EventsTell, CursorsBegin}
+use Rattle.settle_law.specs.Courses.{Trap, Event, End, Iterate, Nest, events_left, events, outcome, iteration_at, reached, cut_at, trap_of, Follows, Behind, Onward, AtEvent, CursorsBegin}
 use Rattle.settle_law.proofs.Nests.{well}
 
 iterations_append : (xs ys : List Passed) → iterations_among (xs ++ ys) ≡ iterations_among xs ++ iterations_among ys

@@ -1,5 +1,5 @@
 -- The lowest iteration may be taken out of a trace that is in order, to the front.
-use Rattle.std.proofs.Common.{◌≡◌, ℕ, suc, ◌<◌, ◌≤◌, ◌⊎◌, ℤ, List, [], ◌∷◌, refl, sym, ap, ◌∙◌, subst, inl, inr, ⊎_elim, arith}
+use Rattle.std.proofs.Common.{◌≡◌, ℕ, suc, ◌<◌, ◌≤◌, ◌⊎◌, ℤ, List, [], ◌∷◌, refl, sym, ap, ◌∙◌, subst, inl, inr, arith}
 use Rattle.std.proofs.lemmas.Bool.{cases_order}
 use Rattle.settle_law.specs.Traces.{Access, iteration, Each, apply, settle, Sees, Replays, Conflict, InOrder, part, behind}
 use Rattle.settle_law.proofs.Members.{part_own, part_other, behind_kept, behind_gone}

@@ -1,15 +1,13 @@
 -- The law: parts are textual, and finished parts carry the words.
-use Rattle.std.proofs.Common.{◌≡◌, ℕ, zero, suc, ◌<◌, ◌≤◌, ◌⊎◌, ℤ, Option, Some, None, List, [], ◌∷◌, ◌++◌, refl, sym, ap, ◌∙◌, subst, inl, inr, ⊎_elim, append-nil, arith}
+use Rattle.std.proofs.Common.{◌≡◌, ℕ, zero, suc, ◌<◌, ◌≤◌, ◌⊎◌, ℤ, Option, Some, None, List, ◌++◌, refl, sym, ap, ◌∙◌, subst, inl, inr, append-nil, arith}
 use Rattle.std.proofs.lemmas.Bool.{cases_order}
 use Rattle.std.specs.Option.{option_and_then}
-use Rattle.nest_syntax.specs.declared.names.Line.{Line}
-use Rattle.nest_syntax.specs.declared.operators.Cause.{Cause}
 use Rattle.nest_syntax.specs.Reads.{Ended, Completed, Stopped}
 use Rattle.nest_syntax.specs.Outcome.{completed}
 use Rattle.settle_law.specs.Trees.{Tree, Finished, Trapped, turn}
-use Rattle.settle_law.specs.Traces.{Access, iteration, Each, settle, Replays, Conflict, part, behind, Makes, Fits, IsFinished, IsTrapped, Apart}
+use Rattle.settle_law.specs.Traces.{Access, iteration, Each, settle, Replays, Conflict, part, behind, Makes, Fits, IsFinished, Apart}
 use Rattle.settle_law.specs.Law.{accesses, after, Lawful, FinishedParts, Textual, PartsAreTextual, FinishedPartsReach, FinishedPartsSettle, FinishedPartsAreWhole, TrappedPartIsTextual}
-use Rattle.settle_law.proofs.Members.{Has, each_at, each_of, each_behind, each_either, has_part, behind_has, behind_all, behind_none, part_is_own}
+use Rattle.settle_law.proofs.Members.{each_at, each_of, each_behind, each_either, has_part, behind_has, behind_all, behind_none, part_is_own}
 use Rattle.settle_law.proofs.Commuting.{Clear, replays_behind_all}
 use Rattle.settle_law.proofs.Makings.{agrees, makes_append, makes_accesses, EndsIn}
 use Rattle.settle_law.proofs.Extracting.{Split, extracted}

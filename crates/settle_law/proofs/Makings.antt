@@ -1,11 +1,9 @@
 -- What a tree makes, in one list and then another, and against its turn in textual order.
-use Rattle.std.proofs.Common.{◌≡◌, ℕ, suc, ℤ, List, [], ◌∷◌, ◌++◌, refl, sym, ap, ◌∙◌, subst, append-nil}
-use Rattle.nest_syntax.specs.declared.names.Line.{Line}
-use Rattle.nest_syntax.specs.declared.operators.Cause.{Cause}
+use Rattle.std.proofs.Common.{◌≡◌, ℕ, ℤ, List, [], ◌∷◌, ◌++◌, refl, sym, ap, ◌∙◌, subst}
 use Rattle.nest_syntax.specs.Arrays.{word_at, with_word}
 use Rattle.nest_syntax.specs.Reads.{Ended, Completed, Stopped}
 use Rattle.settle_law.specs.Trees.{Tree, Finished, Trapped, Load, Store, turn}
-use Rattle.settle_law.specs.Traces.{Access, Read, Write, iteration, Each, apply, settle, Replays, Makes}
+use Rattle.settle_law.specs.Traces.{Access, Read, Write, iteration, Each, settle, Replays, Makes}
 use Rattle.settle_law.specs.Law.{accesses}
 
 -- what is left of a tree behind a list is one tree

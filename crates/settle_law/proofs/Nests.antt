@@ -1,5 +1,5 @@
 -- The words that a nest reaches, against those of the law for its family, and its outcome at a trap.
-use Rattle.std.proofs.Common.{◌≡◌, ℕ, zero, suc, ◌+◌, ◌<◌, ◌≤◌, ℤ, false, Option, Some, None, IsSome, List, [], ◌∷◌, map, slice_get, refl, sym, ap, ◌∙◌, subst, arith, add-suc, suc-add, add-zero}
+use Rattle.std.proofs.Common.{◌≡◌, ℕ, zero, suc, ◌+◌, ◌<◌, ℤ, false, Option, Some, None, IsSome, List, ◌∷◌, map, slice_get, refl, sym, ap, ◌∙◌, subst, arith, add-zero}
 use Rattle.std.proofs.lemmas.Bool.{false≢true}
 use Rattle.std.specs.Option.{option_map, option_map_or, option_and_then}
 use Rattle.nest_syntax.specs.declared.names.Line.{Line}
@@ -11,12 +11,12 @@ use Rattle.nest_syntax.specs.Reads.{Ended, Completed, Stopped, on_words, accesse
 use Rattle.nest_syntax.specs.Course.{Course, End, Failed, Scalar, Drain, Iterate, Close, bodies_of}
 use Rattle.nest_syntax.specs.Outcome.{Ending, TrappedAt, place_of_trap, completed, turn_in, ending_from, events_from, iterations_among, iteration_turn, accesses_of, after as program_after}
 use Rattle.nest_syntax.specs.Outcome as outcome_of
-use Rattle.settle_law.specs.Trees.{Tree, Finished, turn}
+use Rattle.settle_law.specs.Trees.{Finished, turn}
 use Rattle.settle_law.specs.Cuts.{cut, plain, HoldsFixed}
 use Rattle.settle_law.specs.Law.{accesses, after}
 use Rattle.settle_law.specs.Traces.{Access}
-use Rattle.settle_law.specs.Courses.{Nest, nest_of, events, iteration_at, reached, cut_at, family_of, outcome, TrappedIterationIsOutcome}
-use Rattle.settle_law.specs.Reading.{KeepsFixed, NestKeepsFixed, ReachedIsAfter, AfterIsReached, ProgramIsNest, ProgramAccesses, TellsFixed, StaysInside, of_iteration, fixed_in}
+use Rattle.settle_law.specs.Courses.{Nest, nest_of, events, iteration_at, reached, cut_at, family_of, TrappedIterationIsOutcome}
+use Rattle.settle_law.specs.Reading.{NestKeepsFixed, ReachedIsAfter, AfterIsReached, ProgramIsNest, ProgramAccesses, StaysInside, of_iteration, fixed_in}
 use Rattle.settle_law.proofs.Turns.{HoldsAtEnd, holds_at_end, turn_is, accesses_are, keeps-from_tells, tells-from_inside}
 
 pub well : (ended : Ended) (last : List ℤ) → completed ended ≡ Some last → ended ≡ Completed last

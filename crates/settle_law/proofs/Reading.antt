@@ -1,8 +1,6 @@
 -- A turn on a list of reads against what its plain tree makes.
-use Rattle.std.proofs.Common.{◌≡◌, ℕ, ℤ, pos, Bool, true, false, if◌then◌else◌, ◌⊎◌, Option, Some, None, List, [], ◌∷◌, ◌++◌, map, refl, sym, ap, ◌∙◌, subst, inl, inr}
+use Rattle.std.proofs.Common.{◌≡◌, ℕ, ℤ, pos, Bool, true, false, if◌then◌else◌, Option, List, [], ◌∷◌, ◌++◌, map, refl, sym, ap, ◌∙◌, subst, inl, inr}
 use Rattle.std.specs.Option.{option_map_or}
-use Rattle.nest_syntax.specs.declared.names.Line.{Line}
-use Rattle.nest_syntax.specs.declared.operators.Cause.{Cause}
 use Rattle.nest_syntax.specs.Arrays.{Array, sizes_of, is_fixed, word_number, word_at}
 use Rattle.nest_syntax.specs.Turn.{Turn, Finished, Trapped, Load, Store, Op, Go}
 use Rattle.nest_syntax.specs.Reads.{Reading, Finishes, Traps, More, on_reads, with_access}
@@ -10,7 +8,7 @@ use Rattle.nest_syntax.specs.Reads as reads
 use Rattle.settle_law.specs.Trees.{Tree}
 use Rattle.settle_law.specs.Trees as tree
 use Rattle.settle_law.specs.Cuts.{cut, plain, is_full, one_more, CanBeRead}
-use Rattle.settle_law.specs.Traces.{Access, Read, Write, Each, Conflict, Makes, Fits, Apart}
+use Rattle.settle_law.specs.Traces.{Access, Read, Write, Each, Conflict, Makes, Apart}
 use Rattle.settle_law.specs.Reading.{bare, of_iteration, values_read, TellsFixed, told, LeftAt, ReadsAreMade, MadeAsRead, MadeIsRead, ReadsApart, ReadsApartAreApart, ReadsWithin, ReadsWithinAreWithin}
 use Rattle.settle_law.specs.Claims.{Claims, Within, Covers}
 use Rattle.settle_law.proofs.Claims.{covered}

@@ -1,6 +1,5 @@
 -- The definitions, evaluated on small traces and turns.
-use Rattle.std.proofs.Common.{◌≡◌, ℕ, zero, suc, ◌+◌, ◌≤◌, ℤ, pos, Option, Some, None, List, [], ◌∷◌, refl, arith}
-use Rattle.nest_syntax.specs.Reads.{Completed}
+use Rattle.std.proofs.Common.{◌≡◌, ℕ, zero, suc, ◌≤◌, ℤ, pos, Option, Some, None, List, [], ◌∷◌, refl, arith}
 use Rattle.nest_syntax.specs.Turn.{Turn}
 use Rattle.nest_syntax.specs.Turn as turn
 use Rattle.settle_law.specs.Trees.{Tree, Finished, Load, Store}

@@ -1,18 +1,16 @@
 -- A turn on the words against the plain tree of its cut turn.
-use Rattle.std.proofs.Common.{◌≡◌, ℕ, zero, suc, ◌+◌, ◌-◌, ◌<◌, ◌≤◌, ℤ, Bool, true, false, if◌then◌else◌, nat_lt, Option, Some, None, List, [], ◌∷◌, map, take, sum, get_or, refl, sym, ap, ◌∙◌, subst, add_assoc, arith}
+use Rattle.std.proofs.Common.{◌≡◌, ℕ, zero, suc, ◌+◌, ◌-◌, ◌<◌, ℤ, Bool, true, false, if◌then◌else◌, nat_lt, Option, Some, None, List, [], ◌∷◌, map, take, sum, get_or, refl, sym, ap, ◌∙◌, subst, add_assoc, arith}
 use Rattle.std.proofs.lemmas.Bool.{lt-ltb, le-ltb}
 use Rattle.std.proofs.lemmas.List.Sums.{sum_by-cons}
 use Rattle.std.specs.Option.{option_map_or}
-use Rattle.nest_syntax.specs.declared.names.Line.{Line}
-use Rattle.nest_syntax.specs.declared.operators.Cause.{Cause}
 use Rattle.nest_syntax.specs.Arrays.{Array, sizes_of, is_fixed, word_number, word_at, with_word}
 use Rattle.nest_syntax.specs.Turn.{Turn, Finished, Trapped, Load, Store, Op, Go}
 use Rattle.nest_syntax.specs.Reads.{Ended, Completed, Stopped, on_words, accesses_on}
 use Rattle.nest_syntax.specs.Reads as reads
 use Rattle.settle_law.specs.Trees.{Tree, turn}
 use Rattle.settle_law.specs.Trees as tree
-use Rattle.settle_law.specs.Cuts.{Cut, Pauses, cut, plain, pausing, is_full, one_more, CanBeRead, HoldsFixed}
-use Rattle.settle_law.specs.Traces.{Access, Read, Write}
+use Rattle.settle_law.specs.Cuts.{Cut, cut, plain, pausing, is_full, one_more, CanBeRead, HoldsFixed}
+use Rattle.settle_law.specs.Traces.{Read, Write}
 use Rattle.settle_law.specs.Law.{accesses}
 use Rattle.settle_law.specs.Reading.{of_iteration, KeepsFixed, TellsFixed, told, is_fixed_word, fixed_in, StaysInside, TurnIsTree, AccessesAreTree, InsideTurnsTell}
 use Rattle.settle_law.specs.Tasks.{System, Realises}

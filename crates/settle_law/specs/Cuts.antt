@@ -1,6 +1,6 @@
 -- How a turn is cut into the stops at which a worker hands over: a read, a write, a pause, its end. Reads of `const`
 -- words are stops too; they and the pauses are gone in the plain tree.
-use Rattle.std.specs.Prelude.{◌≡◌, ℕ, zero, suc, ℤ, Bool, true, false, if◌then◌else◌, ◌==◌, Option, Some, None, List}
+use Rattle.std.specs.Prelude.{◌≡◌, ℕ, suc, ℤ, Bool, true, false, if◌then◌else◌, ◌==◌, Option, Some, None, List}
 use Rattle.std.specs.Option.{option_map_or}
 use Rattle.nest_syntax.specs.declared.names.Line.{Line}
 use Rattle.nest_syntax.specs.declared.operators.Cause.{Cause}

@@ -1,5 +1,5 @@
 -- The same things in the words of turns: what a turn does on words or on a list of reads, against its plain tree.
-use Rattle.std.specs.Prelude.{◌≡◌, ℕ, zero, suc, ◌<◌, ◌-◌, ℤ, Bool, true, false, if◌then◌else◌, nat_lt, Option, Some, None, IsSome, ◌↔◌, List, [], ◌∷◌, ◌++◌, map, slice_index_or}
+use Rattle.std.specs.Prelude.{◌≡◌, ℕ, ◌<◌, ◌-◌, ℤ, Bool, true, false, if◌then◌else◌, nat_lt, Option, Some, None, IsSome, ◌↔◌, List, [], ◌∷◌, ◌++◌, map, slice_index_or}
 use Rattle.std.specs.Option.{option_map}
 use Rattle.nest_syntax.specs.declared.names.Line.{Line}
 use Rattle.nest_syntax.specs.declared.operators.Cause.{Cause}
