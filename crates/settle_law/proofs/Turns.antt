@@ -12,7 +12,8 @@ use Rattle.settle_law.specs.Trees as tree
 use Rattle.settle_law.specs.Cuts.{Cut, cut, plain, pausing, is_full, one_more, CanBeRead, HoldsFixed}
 use Rattle.settle_law.specs.Traces.{Read, Write}
 use Rattle.settle_law.specs.Law.{accesses}
-use Rattle.settle_law.specs.Reading.{of_iteration, KeepsFixed, TellsFixed, told, is_fixed_word, fixed_in, StaysInside, TurnIsTree, AccessesAreTree, InsideTurnsTell}
+use Rattle.settle_law.specs.Reading.{of_iteration, KeepsFixed, TellsFixed, told, is_fixed_word, fixed_in, StaysInside, TurnIsTree, AccessesAreTree, InsideTurnsTell, WithinTurn, WithinTurnIsWithin}
+use Rattle.settle_law.specs.Claims.{Claims, Within}
 use Rattle.settle_law.specs.Tasks.{System, Realises}
 use Rattle.settle_law.proofs.Commuting.{other_word}
 
@@ -141,3 +142,35 @@ keeps-from_realises {P} sys sizes n (Op rest) piece r = by_pause (is_full n) pie
     by_pause true p go (next, stop, falls, more) = go next more
     by_pause false p go more = go p more
 keeps-from_realises sys sizes n (Go rest) piece (next, stop, falls, more) = keeps-from_realises sys sizes 0 rest next more
+
+-- claims that hold a turn
+module _ (sizes : List ℕ) (fixed : ℕ → Option ℤ) (claims : Claims) where
+  -- a read, by what is told of its word
+  within_told : (o : Option ℤ) (w : ℕ) (f : ℤ → Tree) → (o ≡ None → claims.read w ≡ true) → ((value : ℤ) → CanBeRead o value → Within claims (f value)) → Within claims (option_map_or f o (tree.Load w f))
+  within_told None w f claimed more = (claimed refl, λ value. more value tt)
+  within_told (Some old) w f claimed more = more old refl
+
+  pub within_turn : (n : ℕ) (t : Turn) → WithinTurn sizes fixed claims t → Within claims (plain fixed (cut sizes n t))
+  within_turn n Finished within = tt
+  within_turn n (Trapped cause line) within = tt
+  within_turn n (Load array place go) within = within_told (fixed (word_number sizes array place)) (word_number sizes array place) (λ x. plain fixed (cut sizes 0 (go x))) within.0 (λ value can. within_turn 0 (go value) (within.1 value can))
+  within_turn n (Store array place value rest) within = (within.0, within_turn 0 rest within.1)
+  within_turn n (Op rest) within = subst (Within claims) (sym (plain_pausing fixed (is_full n) (cut sizes (one_more n) rest))) (within_turn (one_more n) rest within)
+  within_turn n (Go rest) within = within_turn 0 rest within
+
+  told_within : (o : Option ℤ) (w : ℕ) (f : ℤ → Tree) → Within claims (option_map_or f o (tree.Load w f)) → (o ≡ None → claims.read w ≡ true) × ((value : ℤ) → CanBeRead o value → Within claims (f value))
+  told_within None w f within = (λ none. within.0, λ value can. within.1 value)
+  told_within (Some old) w f within = (λ none. absurd (let no : Some old ≡ None = none in cc), λ value can. subst (λ x. Within claims (f x)) can within)
+
+  pub turn_within : (n : ℕ) (t : Turn) → Within claims (plain fixed (cut sizes n t)) → WithinTurn sizes fixed claims t
+  turn_within n Finished within = tt
+  turn_within n (Trapped cause line) within = tt
+  turn_within n (Load array place go) within =
+      let parts : (fixed (word_number sizes array place) ≡ None → claims.read (word_number sizes array place) ≡ true) × ((value : ℤ) → CanBeRead (fixed (word_number sizes array place)) value → Within claims (plain fixed (cut sizes 0 (go value)))) = told_within (fixed (word_number sizes array place)) (word_number sizes array place) (λ x. plain fixed (cut sizes 0 (go x))) within in
+      (parts.0, λ value can. turn_within 0 (go value) (parts.1 value can))
+  turn_within n (Store array place value rest) within = (within.0, turn_within 0 rest within.1)
+  turn_within n (Op rest) within = turn_within (one_more n) rest (subst (Within claims) (plain_pausing fixed (is_full n) (cut sizes (one_more n) rest)) within)
+  turn_within n (Go rest) within = turn_within 0 rest within
+
+pub within_turns : WithinTurnIsWithin
+within_turns sizes fixed claims t = (within_turn sizes fixed claims 0 t, turn_within sizes fixed claims 0 t)

@@ -11,12 +11,12 @@ use Rattle.nest_syntax.specs.Reads as reads
 use Rattle.nest_syntax.specs.Outcome.{after as program_after, ending, iteration_turn, events_of, accesses_of}
 use Rattle.settle_law.specs.Trees.{Tree, turn}
 use Rattle.settle_law.specs.Trees as tree
-use Rattle.settle_law.specs.Cuts.{cut, plain, CanBeRead, HoldsFixed}
+use Rattle.settle_law.specs.Cuts.{Cut, cut, plain, CanBeRead, HoldsFixed}
 use Rattle.settle_law.specs.Traces.{Access, Read, Write, Each, Conflict, Makes, Apart}
 use Rattle.settle_law.specs.Law.{accesses, after}
 use Rattle.settle_law.specs.Claims.{Claims, Within, Covers}
 use Rattle.settle_law.specs.Tasks.{System, Realises}
-use Rattle.settle_law.specs.Courses.{Nest, nest_of, events, iteration_at, reached, family_of, outcome}
+use Rattle.settle_law.specs.Courses.{Event, Follows, Nest, nest_of, events, iteration_at, reached, family_of, outcome}
 
 -- an access without the number of its iteration, and one with it
 abbrev pub bare : Access → reads.Access
@@ -118,6 +118,19 @@ ReadsWithin arrays words claims t = (read : List ℤ) → Each (Covers claims) (
 abbrev pub ReadsWithinAreWithin : Type 0
 ReadsWithinAreWithin = (arrays : List Array) (fixed : ℕ → Option ℤ) (words : List ℤ) (claims : Claims) (t : Turn) → TellsFixed arrays fixed words t → ReadsWithin arrays words claims t ↔ Within claims (plain fixed (cut (sizes_of arrays) 0 t))
 
+-- The claims hold the turn: on any path that it can take, each read of a word that isn't told is claimed, and each write.
+abbrev pub WithinTurn : List ℕ → (ℕ → Option ℤ) → Claims → Turn → Type 0
+WithinTurn sizes fixed claims Finished = Unit {0}
+WithinTurn sizes fixed claims (Trapped cause line) = Unit {0}
+WithinTurn sizes fixed claims (Load array place go) = (fixed (word_number sizes array place) ≡ None → claims.read (word_number sizes array place) ≡ true) × ((value : ℤ) → CanBeRead (fixed (word_number sizes array place)) value → WithinTurn sizes fixed claims (go value))
+WithinTurn sizes fixed claims (Store array place value rest) = (claims.written (word_number sizes array place) ≡ true) × WithinTurn sizes fixed claims rest
+WithinTurn sizes fixed claims (Op rest) = WithinTurn sizes fixed claims rest
+WithinTurn sizes fixed claims (Go rest) = WithinTurn sizes fixed claims rest
+
+-- They are those that hold its plain tree.
+abbrev pub WithinTurnIsWithin : Type 0
+WithinTurnIsWithin = (sizes : List ℕ) (fixed : ℕ → Option ℤ) (claims : Claims) (t : Turn) → WithinTurn sizes fixed claims t ↔ Within claims (plain fixed (cut sizes 0 t))
+
 -- For a turn that stays inside its arrays, the opening words tell rightly.
 abbrev pub InsideTurnsTell : Type 0
 InsideTurnsTell = (arrays : List Array) (words : List ℤ) → HoldsFixed (fixed_in arrays words) words × ((t : Turn) → StaysInside arrays t → TellsFixed arrays (fixed_in arrays words) words t)
@@ -132,6 +145,11 @@ RealisedTurnsKeep P = (sys : System P) (sizes : List ℕ) (t : Turn) (piece : P)
 -- no iteration of the nest writes a word that is told
 abbrev pub NestKeepsFixed : (ℕ → Option ℤ) → Nest → Type 0
 NestKeepsFixed fixed nest = (k : ℕ) (i : ℕ × List ℤ) → iteration_at nest k ≡ Some i → KeepsFixed nest.sizes fixed (nest.turn i.0 i.1)
+
+-- A nest keeps its `const` words where a cursor follows its course and each body of the cursor has a piece that realises
+-- its cut turn.
+abbrev pub FollowedNestsKeep : Type 0 → Type 0 → Type 0 → Type 0
+FollowedNestsKeep B C P = (sys : System P) (nest : Nest) (tree : B → Cut) (entry : B → P) (event : C → Event B C) (cursor : C) → ((b : B) → Realises sys (tree b) (entry b)) → Follows nest tree event cursor nest.course → NestKeepsFixed sys.fixed nest
 
 -- The words that textual order reaches are those of the law, for the family of the nest, and the told words keep their
 -- values.

@@ -8,7 +8,7 @@ ghost use Rattle.settle_law.specs.Law.{PartsAreTextual, FinishedPartsReach, Fini
 ghost use Rattle.settle_law.specs.Claims.{ClaimsPartIterations};
 ghost use Rattle.settle_law.specs.Tasks.{StopsTell, PiecesBegin};
 ghost use Rattle.settle_law.specs.Courses.{EventsTell, CursorsBegin, TrappedIterationIsOutcome};
-ghost use Rattle.settle_law.specs.Reading.{TurnIsTree, AccessesAreTree, ReadsAreMade, MadeIsRead, ReadsApartAreApart, ReadsWithinAreWithin, InsideTurnsTell, TellingTurnsKeep, RealisedTurnsKeep, ReachedIsAfter, AfterIsReached, ProgramIsNest, ProgramAccesses};
+ghost use Rattle.settle_law.specs.Reading.{TurnIsTree, AccessesAreTree, ReadsAreMade, MadeIsRead, ReadsApartAreApart, ReadsWithinAreWithin, WithinTurnIsWithin, InsideTurnsTell, TellingTurnsKeep, FollowedNestsKeep, RealisedTurnsKeep, ReachedIsAfter, AfterIsReached, ProgramIsNest, ProgramAccesses};
 
 /// In a trace that keeps the law's premises each part agrees with textual order, as far as textual order gets: it is
 /// what the iteration makes first there, and it is finished or trapped only where the iteration is.
@@ -82,6 +82,11 @@ pub fn reads_within_are_within()
     ensures { ReadsWithinAreWithin }
 {}
 
+/// Claims hold a turn exactly where they hold its plain tree.
+pub fn within_turn_is_within()
+    ensures { WithinTurnIsWithin }
+{}
+
 /// Of a turn that stays inside its arrays, the opening words tell rightly which words are `const`.
 pub fn inside_turns_tell()
     ensures { InsideTurnsTell }
@@ -95,6 +100,11 @@ pub fn telling_turns_keep()
 /// A turn whose cut turn is realised writes no `const` word.
 pub fn realised_turns_keep<P>()
     ensures { RealisedTurnsKeep P }
+{}
+
+/// A nest whose course a cursor follows, with pieces that realise its cut turns, keeps its `const` words.
+pub fn followed_nests_keep<B, C, P>()
+    ensures { FollowedNestsKeep B C P }
 {}
 
 /// The words that a nest reaches in textual order are those of the law for its family.
