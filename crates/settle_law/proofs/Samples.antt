@@ -1,11 +1,17 @@
 -- The definitions, evaluated on small traces and turns.
-use Rattle.std.proofs.Common.{◌≡◌, ℕ, zero, suc, ◌≤◌, ℤ, pos, Option, Some, None, List, [], ◌∷◌, refl, arith}
+use Rattle.std.proofs.Common.{◌≡◌, ℕ, zero, suc, ◌≤◌, ℤ, pos, Option, Some, None, List, [], ◌∷◌, refl, arith, true}
+use Rattle.nest_syntax.specs.declared.names.Line.{Line}
+use Rattle.nest_syntax.specs.declared.operators.Cause.{Cause}
+use Rattle.nest_syntax.specs.Course.{Course, Ordinary, Header}
+use Rattle.nest_syntax.specs.Course as course
+use Rattle.nest_syntax.specs.Outcome.{Done, TrappedAt, place_of_trap, Computes, Iterates, Closes, Ends}
 use Rattle.nest_syntax.specs.Turn.{Turn}
 use Rattle.nest_syntax.specs.Turn as turn
 use Rattle.settle_law.specs.Trees.{Tree, Finished, Load, Store}
 use Rattle.settle_law.specs.Cuts.{Cut, cut, plain}
 use Rattle.settle_law.specs.Cuts as cut
 use Rattle.settle_law.specs.Traces.{Access, Read, Write, settle, Replays, InOrder, part, IsFinished}
+use Rattle.settle_law.specs.Courses.{Nest, Event, End, Scalar, Iterate, Close, events, reached, outcome, Follows}
 use Rattle.settle_law.specs.Law.{after, accesses}
 
 -- iteration 0 writes word 0, iteration 1 reads it and writes word 1
@@ -74,3 +80,34 @@ told (suc w) = None
 
 plain_sample : plain told (cut.Reads 0 (λ index. cut.Pauses (cut.Reads 1 (λ value. cut.Writes 1 index cut.Finished)))) ≡ Load 1 (λ value. Store 1 (pos 7) Finished)
 plain_sample = refl
+
+-- a nest with one invocation of two iterations, each of which writes word 0 with 3
+abbrev small : Course → Nest
+small course = record { sizes = 1 ∷ []; turn = λ body scalars. turn.Store 0 0 (pos 3) turn.Finished; course = course; opening = pos 0 ∷ [] }
+
+abbrev two_iterations : Course
+two_iterations = course.Scalar Header (course.Iterate 0 [] (course.Iterate 0 [] (course.Close course.End)))
+
+small-events : events (small two_iterations) ≡ Computes Header ∷ Iterates 0 [] ∷ Iterates 0 [] ∷ Closes ∷ Ends ∷ []
+small-events = refl
+
+small-reaches : reached (small two_iterations) 1 ≡ Some (pos 3 ∷ [])
+small-reaches = refl
+
+small-outcome : outcome (small two_iterations) ≡ Done (pos 3 ∷ [])
+small-outcome = refl
+
+-- the cursor counts the events, and the only body is the number 0
+abbrev small_event : ℕ → Event ℕ ℕ
+small_event zero = Scalar Header None 1
+small_event (suc zero) = Iterate 0 2
+small_event (suc (suc zero)) = Iterate 0 3
+small_event (suc (suc (suc zero))) = Close 4
+small_event (suc (suc (suc (suc n)))) = End
+
+small-follows : Follows (small two_iterations) (λ b. cut.Writes 0 (pos 3) cut.Finished) small_event 0 two_iterations
+small-follows = (1, refl, λ none. (0, 2, refl, refl, (0, 3, refl, refl, (4, refl, refl))))
+
+-- an event that traps ends the nest
+trapping-outcome : (why : Cause) (line : Line) → outcome (small (course.Scalar Ordinary (course.Failed why line))) ≡ TrappedAt (place_of_trap why line 0 true)
+trapping-outcome why line = refl

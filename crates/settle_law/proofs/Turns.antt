@@ -12,7 +12,7 @@ use Rattle.settle_law.specs.Trees as tree
 use Rattle.settle_law.specs.Cuts.{Cut, cut, plain, pausing, is_full, one_more, CanBeRead, HoldsFixed}
 use Rattle.settle_law.specs.Traces.{Read, Write}
 use Rattle.settle_law.specs.Law.{accesses}
-use Rattle.settle_law.specs.Reading.{of_iteration, KeepsFixed, TellsFixed, told, is_fixed_word, fixed_in, StaysInside, TurnIsTree, AccessesAreTree, InsideTurnsTell, WithinTurn, WithinTurnIsWithin}
+use Rattle.settle_law.specs.Reading.{number_in, of_iteration, KeepsFixed, TellsFixed, told, is_fixed_word, fixed_in, StaysInside, TurnIsTree, AccessesAreTree, InsideTurnsTell, WithinTurn, WithinTurnIsWithin}
 use Rattle.settle_law.specs.Claims.{Claims, Within}
 use Rattle.settle_law.specs.Tasks.{System, Realises}
 use Rattle.settle_law.proofs.Commuting.{other_word}
@@ -77,11 +77,11 @@ module _ (arrays : List Array) (fixed : ℕ → Option ℤ) (opening : List ℤ)
   accesses_are n Finished words tells holds = refl
   accesses_are n (Trapped cause line) words tells holds = refl
   accesses_are n (Load array place go) words tells holds =
-      let can : CanBeRead (fixed (word_number (sizes_of arrays) array place)) (word_at words (word_number (sizes_of arrays) array place)) = can_read (sizes_of arrays) fixed (word_number (sizes_of arrays) array place) words holds in
-      accesses_told (is_fixed arrays array) (fixed (word_number (sizes_of arrays) array place)) (word_at opening (word_number (sizes_of arrays) array place)) (word_number (sizes_of arrays) array place) (λ x. plain fixed (cut (sizes_of arrays) 0 (go x))) words
-      (accesses_on arrays (go (word_at words (word_number (sizes_of arrays) array place))) words)
-      tells.0 can (accesses_are 0 (go (word_at words (word_number (sizes_of arrays) array place))) words (tells.1 (word_at words (word_number (sizes_of arrays) array place)) can) holds)
-  accesses_are n (Store array place value rest) words tells holds = ap (λ l. Write k (word_number (sizes_of arrays) array place) value ∷ l) (accesses_are 0 rest (with_word words (word_number (sizes_of arrays) array place) value) tells.1 (holds_write fixed words (word_number (sizes_of arrays) array place) value tells.0 holds))
+      let can : CanBeRead (fixed (number_in arrays array place)) (word_at words (number_in arrays array place)) = can_read (sizes_of arrays) fixed (number_in arrays array place) words holds in
+      accesses_told (is_fixed arrays array) (fixed (number_in arrays array place)) (word_at opening (number_in arrays array place)) (number_in arrays array place) (λ x. plain fixed (cut (sizes_of arrays) 0 (go x))) words
+      (accesses_on arrays (go (word_at words (number_in arrays array place))) words)
+      tells.0 can (accesses_are 0 (go (word_at words (number_in arrays array place))) words (tells.1 (word_at words (number_in arrays array place)) can) holds)
+  accesses_are n (Store array place value rest) words tells holds = ap (λ l. Write k (number_in arrays array place) value ∷ l) (accesses_are 0 rest (with_word words (number_in arrays array place) value) tells.1 (holds_write fixed words (number_in arrays array place) value tells.0 holds))
   accesses_are n (Op rest) words tells holds = accesses_are (one_more n) rest words tells holds ∙ ap (λ x. accesses k x words) (sym (plain_pausing fixed (is_full n) (cut (sizes_of arrays) (one_more n) rest)))
   accesses_are n (Go rest) words tells holds = accesses_are 0 rest words tells holds
 
@@ -98,7 +98,7 @@ keeps-from_tells arrays fixed words (Op rest) tells = keeps-from_tells arrays fi
 keeps-from_tells arrays fixed words (Go rest) tells = keeps-from_tells arrays fixed words rest tells
 
 -- a word inside an array is `const` where the array is
-pub fixed_as_array : (arrays : List Array) (array place : ℕ) → place < get_or (sizes_of arrays) array 0 → is_fixed_word arrays (word_number (sizes_of arrays) array place) ≡ is_fixed arrays array
+pub fixed_as_array : (arrays : List Array) (array place : ℕ) → place < get_or (sizes_of arrays) array 0 → is_fixed_word arrays (number_in arrays array place) ≡ is_fixed arrays array
 fixed_as_array [] array place inside = absurd (omega (arith, inside))
 fixed_as_array (a ∷ arrays) zero place inside =
     let here : nat_lt (0 + place) a.size ≡ true = lt-ltb (0 + place) a.size (omega (arith, inside)) in
@@ -114,8 +114,8 @@ fixed_as_array (a ∷ arrays) (suc n) place inside =
 pub tells-from_inside : (arrays : List Array) (words : List ℤ) (t : Turn) → StaysInside arrays t → TellsFixed arrays (fixed_in arrays words) words t
 tells-from_inside arrays words Finished inside = tt
 tells-from_inside arrays words (Trapped cause line) inside = tt
-tells-from_inside arrays words (Load array place go) inside = (ap (λ b. told b (word_at words (word_number (sizes_of arrays) array place))) (fixed_as_array arrays array place inside.0), λ value can. tells-from_inside arrays words (go value) (inside.1 value))
-tells-from_inside arrays words (Store array place value rest) inside = (ap (λ b. told b (word_at words (word_number (sizes_of arrays) array place))) (fixed_as_array arrays array place inside.0 ∙ inside.1), tells-from_inside arrays words rest inside.2)
+tells-from_inside arrays words (Load array place go) inside = (ap (λ b. told b (word_at words (number_in arrays array place))) (fixed_as_array arrays array place inside.0), λ value can. tells-from_inside arrays words (go value) (inside.1 value))
+tells-from_inside arrays words (Store array place value rest) inside = (ap (λ b. told b (word_at words (number_in arrays array place))) (fixed_as_array arrays array place inside.0 ∙ inside.1), tells-from_inside arrays words rest inside.2)
 tells-from_inside arrays words (Op rest) inside = tells-from_inside arrays words rest inside
 tells-from_inside arrays words (Go rest) inside = tells-from_inside arrays words rest inside
 

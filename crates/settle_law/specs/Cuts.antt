@@ -48,6 +48,10 @@ plain fixed (Reads w go) = option_map_or (λ value. plain fixed (go value)) (fix
 plain fixed (Writes w value rest) = tree.Store w value (plain fixed rest)
 plain fixed (Pauses rest) = plain fixed rest
 
+-- the plain tree of a turn
+abbrev pub plain_turn : List ℕ → (ℕ → Option ℤ) → Turn → Tree
+plain_turn sizes fixed t = plain fixed (cut sizes 0 t)
+
 -- the values that a read of a word may have: the one that is told, or any
 abbrev pub CanBeRead : Option ℤ → ℤ → Type 0
 CanBeRead None value = Unit {0}

@@ -11,7 +11,7 @@ use Rattle.nest_syntax.specs.Reads as reads
 use Rattle.nest_syntax.specs.Outcome.{after as program_after, ending, iteration_turn, events_of, accesses_of}
 use Rattle.settle_law.specs.Trees.{Tree, turn}
 use Rattle.settle_law.specs.Trees as tree
-use Rattle.settle_law.specs.Cuts.{Cut, cut, plain, CanBeRead, HoldsFixed}
+use Rattle.settle_law.specs.Cuts.{Cut, cut, plain_turn, CanBeRead, HoldsFixed}
 use Rattle.settle_law.specs.Traces.{Access, Read, Write, Each, Conflict, Makes, Apart}
 use Rattle.settle_law.specs.Law.{accesses, after}
 use Rattle.settle_law.specs.Claims.{Claims, Within, Covers}
@@ -47,12 +47,16 @@ abbrev pub told : Bool → ℤ → Option ℤ
 told true value = Some value
 told false value = None
 
+-- the number of the word at a place of an array
+abbrev pub number_in : List Array → ℕ → ℕ → ℕ
+number_in arrays array place = word_number (sizes_of arrays) array place
+
 -- what is told of each word that the turn reads or writes is right by its array, on any path that it can take
 abbrev pub TellsFixed : List Array → (ℕ → Option ℤ) → List ℤ → Turn → Type 0
 TellsFixed arrays fixed words Finished = Unit {0}
 TellsFixed arrays fixed words (Trapped cause line) = Unit {0}
-TellsFixed arrays fixed words (Load array place go) = (fixed (word_number (sizes_of arrays) array place) ≡ told (is_fixed arrays array) (word_at words (word_number (sizes_of arrays) array place))) × ((value : ℤ) → CanBeRead (fixed (word_number (sizes_of arrays) array place)) value → TellsFixed arrays fixed words (go value))
-TellsFixed arrays fixed words (Store array place value rest) = (fixed (word_number (sizes_of arrays) array place) ≡ None) × TellsFixed arrays fixed words rest
+TellsFixed arrays fixed words (Load array place go) = (fixed (number_in arrays array place) ≡ told (is_fixed arrays array) (word_at words (number_in arrays array place))) × ((value : ℤ) → CanBeRead (fixed (number_in arrays array place)) value → TellsFixed arrays fixed words (go value))
+TellsFixed arrays fixed words (Store array place value rest) = (fixed (number_in arrays array place) ≡ None) × TellsFixed arrays fixed words rest
 TellsFixed arrays fixed words (Op rest) = TellsFixed arrays fixed words rest
 TellsFixed arrays fixed words (Go rest) = TellsFixed arrays fixed words rest
 
@@ -76,11 +80,11 @@ StaysInside arrays (Go rest) = StaysInside arrays rest
 
 -- A turn on the words is the plain tree of its cut turn on the words, in how it ends.
 abbrev pub TurnIsTree : Type 0
-TurnIsTree = (sizes : List ℕ) (fixed : ℕ → Option ℤ) (t : Turn) (words : List ℤ) → KeepsFixed sizes fixed t → HoldsFixed fixed words → on_words sizes t words ≡ turn (plain fixed (cut sizes 0 t)) words
+TurnIsTree = (sizes : List ℕ) (fixed : ℕ → Option ℤ) (t : Turn) (words : List ℤ) → KeepsFixed sizes fixed t → HoldsFixed fixed words → on_words sizes t words ≡ turn (plain_turn sizes fixed t) words
 
 -- And in the accesses that it makes.
 abbrev pub AccessesAreTree : Type 0
-AccessesAreTree = (arrays : List Array) (fixed : ℕ → Option ℤ) (opening : List ℤ) (t : Turn) (k : ℕ) (words : List ℤ) → TellsFixed arrays fixed opening t → HoldsFixed fixed words → map (of_iteration k) (accesses_on arrays t words) ≡ accesses k (plain fixed (cut (sizes_of arrays) 0 t)) words
+AccessesAreTree = (arrays : List Array) (fixed : ℕ → Option ℤ) (opening : List ℤ) (t : Turn) (k : ℕ) (words : List ℤ) → TellsFixed arrays fixed opening t → HoldsFixed fixed words → map (of_iteration k) (accesses_on arrays t words) ≡ accesses k (plain_turn (sizes_of arrays) fixed t) words
 
 -- the tree that a turn on reads leaves
 abbrev pub LeftAt : Stop → Tree → Type 0
@@ -90,7 +94,7 @@ LeftAt More rest = (w : ℕ) × (go : ℤ → Tree) × (rest ≡ tree.Load w go)
 
 -- What a turn on reads makes, its plain tree makes, and is left where the turn ends.
 abbrev pub ReadsAreMade : Type 0
-ReadsAreMade = (arrays : List Array) (fixed : ℕ → Option ℤ) (words : List ℤ) (t : Turn) (k : ℕ) (read : List ℤ) → TellsFixed arrays fixed words t → (rest : Tree) × LeftAt (on_reads arrays words t read).stop rest × Makes (plain fixed (cut (sizes_of arrays) 0 t)) (map (of_iteration k) (on_reads arrays words t read).accesses) rest
+ReadsAreMade = (arrays : List Array) (fixed : ℕ → Option ℤ) (words : List ℤ) (t : Turn) (k : ℕ) (read : List ℤ) → TellsFixed arrays fixed words t → (rest : Tree) × LeftAt (on_reads arrays words t read).stop rest × Makes (plain_turn (sizes_of arrays) fixed t) (map (of_iteration k) (on_reads arrays words t read).accesses) rest
 
 -- What a plain tree makes, the turn on the values read makes first. A part up to the end or a trap is all that it makes,
 -- and the turn ends so.
@@ -100,7 +104,7 @@ pub record MadeAsRead (rest : Tree) (made : List Access) (reading : Reading) : T
   pub trapped : (cause : Cause) (line : Line) → rest ≡ tree.Trapped cause line → (map bare made ≡ reading.accesses) × (reading.stop ≡ Traps cause line)
 
 abbrev pub MadeIsRead : Type 0
-MadeIsRead = (arrays : List Array) (fixed : ℕ → Option ℤ) (words : List ℤ) (t : Turn) (made : List Access) (rest : Tree) → TellsFixed arrays fixed words t → Makes (plain fixed (cut (sizes_of arrays) 0 t)) made rest → MadeAsRead rest made (on_reads arrays words t (values_read made))
+MadeIsRead = (arrays : List Array) (fixed : ℕ → Option ℤ) (words : List ℤ) (t : Turn) (made : List Access) (rest : Tree) → TellsFixed arrays fixed words t → Makes (plain_turn (sizes_of arrays) fixed t) made rest → MadeAsRead rest made (on_reads arrays words t (values_read made))
 
 -- two turns are apart by what they make on any lists of reads
 abbrev pub ReadsApart : List Array → List ℤ → Turn → Turn → Type 0
@@ -108,7 +112,7 @@ ReadsApart arrays words t other = (read others : List ℤ) → Each (λ a. Each 
 
 -- It is the same for turns as for their plain trees.
 abbrev pub ReadsApartAreApart : Type 0
-ReadsApartAreApart = (arrays : List Array) (fixed : ℕ → Option ℤ) (words : List ℤ) (t other : Turn) → TellsFixed arrays fixed words t → TellsFixed arrays fixed words other → ReadsApart arrays words t other ↔ Apart (plain fixed (cut (sizes_of arrays) 0 t)) (plain fixed (cut (sizes_of arrays) 0 other))
+ReadsApartAreApart = (arrays : List Array) (fixed : ℕ → Option ℤ) (words : List ℤ) (t other : Turn) → TellsFixed arrays fixed words t → TellsFixed arrays fixed words other → ReadsApart arrays words t other ↔ Apart (plain_turn (sizes_of arrays) fixed t) (plain_turn (sizes_of arrays) fixed other)
 
 -- the claims cover each access that the turn makes on any list of reads
 abbrev pub ReadsWithin : List Array → List ℤ → Claims → Turn → Type 0
@@ -116,7 +120,7 @@ ReadsWithin arrays words claims t = (read : List ℤ) → Each (Covers claims) (
 
 -- Such claims hold the plain tree, and no others do.
 abbrev pub ReadsWithinAreWithin : Type 0
-ReadsWithinAreWithin = (arrays : List Array) (fixed : ℕ → Option ℤ) (words : List ℤ) (claims : Claims) (t : Turn) → TellsFixed arrays fixed words t → ReadsWithin arrays words claims t ↔ Within claims (plain fixed (cut (sizes_of arrays) 0 t))
+ReadsWithinAreWithin = (arrays : List Array) (fixed : ℕ → Option ℤ) (words : List ℤ) (claims : Claims) (t : Turn) → TellsFixed arrays fixed words t → ReadsWithin arrays words claims t ↔ Within claims (plain_turn (sizes_of arrays) fixed t)
 
 -- The claims hold the turn: on any path that it can take, each read of a word that isn't told is claimed, and each write.
 abbrev pub WithinTurn : List ℕ → (ℕ → Option ℤ) → Claims → Turn → Type 0
@@ -129,7 +133,7 @@ WithinTurn sizes fixed claims (Go rest) = WithinTurn sizes fixed claims rest
 
 -- They are those that hold its plain tree.
 abbrev pub WithinTurnIsWithin : Type 0
-WithinTurnIsWithin = (sizes : List ℕ) (fixed : ℕ → Option ℤ) (claims : Claims) (t : Turn) → WithinTurn sizes fixed claims t ↔ Within claims (plain fixed (cut sizes 0 t))
+WithinTurnIsWithin = (sizes : List ℕ) (fixed : ℕ → Option ℤ) (claims : Claims) (t : Turn) → WithinTurn sizes fixed claims t ↔ Within claims (plain_turn sizes fixed t)
 
 -- For a turn that stays inside its arrays, the opening words tell rightly.
 abbrev pub InsideTurnsTell : Type 0
