@@ -1,5 +1,5 @@
 -- The definitions, evaluated on small traces and turns.
-use Rattle.std.proofs.Common.{◌≡◌, ℕ, zero, suc, ◌≤◌, ℤ, pos, Option, Some, None, List, [], ◌∷◌, refl, arith, true}
+use Rattle.std.proofs.Common.{◌≡◌, ℕ, zero, suc, ◌≤◌, ℤ, pos, Option, Some, None, List, [], ◌∷◌, refl, arith, true, sym, ◌∙◌, subst, inl}
 use Rattle.nest_syntax.specs.declared.names.Line.{Line}
 use Rattle.nest_syntax.specs.declared.operators.Cause.{Cause}
 use Rattle.nest_syntax.specs.Course.{Course, Ordinary, Header}
@@ -10,9 +10,11 @@ use Rattle.nest_syntax.specs.Turn as turn
 use Rattle.settle_law.specs.Trees.{Tree, Finished, Load, Store}
 use Rattle.settle_law.specs.Cuts.{Cut, cut, plain}
 use Rattle.settle_law.specs.Cuts as cut
-use Rattle.settle_law.specs.Traces.{Access, Read, Write, settle, Replays, InOrder, part, IsFinished}
+use Rattle.settle_law.specs.Traces.{Access, Read, Write, settle, Replays, InOrder, part, IsFinished, Fits, Makes}
 use Rattle.settle_law.specs.Courses.{Nest, Event, End, Scalar, Iterate, Close, events, reached, outcome, Follows}
-use Rattle.settle_law.specs.Law.{after, accesses}
+use Rattle.settle_law.specs.Law.{after, accesses, Lawful, FinishedParts}
+use Rattle.settle_law.proofs.Members.{part_other}
+use Rattle.settle_law.proofs.Law.{settles}
 
 -- iteration 0 writes word 0, iteration 1 reads it and writes word 1
 abbrev family : ℕ → Tree
@@ -43,6 +45,33 @@ in_turn-part = refl
 
 in_turn-finished : IsFinished (family 1) (part 1 in_turn)
 in_turn-finished = (refl, (refl, refl, refl))
+
+-- it keeps the premises of the law, and the law gives what was evaluated
+in_turn-no_other : (k : ℕ) → part (suc (suc k)) in_turn ≡ []
+in_turn-no_other k = part_other (suc (suc k)) (Write 0 0 (pos 5)) (Read 1 0 (pos 5) ∷ Write 1 1 (pos 6) ∷ []) (λ same. let s : 0 ≡ suc (suc k) = same in omega arith) ∙ part_other (suc (suc k)) (Read 1 0 (pos 5)) (Write 1 1 (pos 6) ∷ []) (λ same. let s : 1 ≡ suc (suc k) = same in omega arith) ∙ part_other (suc (suc k)) (Write 1 1 (pos 6)) [] (λ same. let s : 1 ≡ suc (suc k) = same in omega arith)
+
+in_turn-fits : (k : ℕ) → Fits (family k) (part k in_turn)
+in_turn-fits zero = (Finished, (refl, refl, refl))
+in_turn-fits (suc zero) = (Finished, in_turn-finished)
+in_turn-fits (suc (suc k)) = (family (suc (suc k)), subst (λ made. Makes (family (suc (suc k))) made (family (suc (suc k)))) (sym (in_turn-no_other k)) refl)
+
+in_turn-parts : FinishedParts family 0 2 in_turn
+in_turn-parts zero from below = (refl, refl, refl)
+in_turn-parts (suc zero) from below = in_turn-finished
+in_turn-parts (suc (suc k)) from below = absurd (omega arith)
+
+in_turn-lawful : Lawful family two_zeros 0 two_zeros in_turn
+in_turn-lawful = record {
+  reached = refl;
+  replays = in_turn-replays;
+  in_order = in_turn-in_order;
+  from_m = (omega arith, (omega arith, (omega arith, tt)));
+  fits = in_turn-fits;
+  guarded = ((λ j from below. inl (in_turn-parts j from (omega arith))), ((λ j from below. inl (in_turn-parts j from (omega arith))), ((λ j from below. inl (in_turn-parts j from (omega arith))), tt)));
+}
+
+in_turn-settles_by_law : after family two_zeros 2 ≡ Some (settle two_zeros in_turn)
+in_turn-settles_by_law = settles family two_zeros 0 two_zeros in_turn in_turn-lawful 2 (omega arith) in_turn-parts (omega arith, (omega arith, (omega arith, tt)))
 
 -- out of order: iteration 1 reads before iteration 0 writes; the trace replays, and settles to the same words
 abbrev too_early : List Access
