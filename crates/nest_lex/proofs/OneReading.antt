@@ -63,7 +63,7 @@ one_standing text at next next' p q a b =
     (subst (λ (n : ℕ). Spells q (slice_range text at n)) (sym (one_end text at next next' p q a b)) b.spelled)
 
 -- a gap ends at one place
-one_line_end : (text : List ℕ) (from to to' : ℕ) → IsLineEnd text from to → IsLineEnd text from to' → to ≡ to'
+pub one_line_end : (text : List ℕ) (from to to' : ℕ) → IsLineEnd text from to → IsLineEnd text from to' → to ≡ to'
 one_line_end text from to to' a b = elim (cases_lt to to') [
   | inl less ↦ absurd (b.none_before to a.ordered less (a.ends (omega (arith, b.within))))
   | inr least ↦ elim (cases_lt to' to) [

@@ -5,9 +5,9 @@ use Rattle.nest_lex.specs.Bytes.{is_space}
 use Rattle.nest_lex.specs.Pieces.{IsLineEnd}
 use Rattle.nest_lex.specs.Places.{spot_of}
 use Rattle.nest_lex.specs.declared.token.Spot.{Spot}
-use Rattle.nest_lex.specs.declared.parts.Marker.{Marker}
-use Rattle.nest_lex.specs.declared.parts.Marker.TheVariants.{Data, Steps}
-use Rattle.nest_lex.specs.declared.parts.Parts.{Parts}
+use Rattle.nest_lex.specs.declared.input.Marker.{Marker}
+use Rattle.nest_lex.specs.declared.input.Marker.TheVariants.{Data, Steps}
+use Rattle.nest_lex.specs.declared.input.Parts.{Parts}
 
 abbrev pub marker_text : Marker → List ℕ
 marker_text Data = codes "data"

@@ -1,12 +1,13 @@
 //! Tokens and parts of the input: bytes come in, a list of tokens with their places goes out.
 #![tactic(auto)]
 
+mod divide;
 mod found;
+mod input;
 mod lexer;
 mod load;
 mod names;
 mod number;
-mod parts;
 mod piece;
 mod place;
 mod reader;
@@ -15,7 +16,8 @@ mod scan;
 mod spelling;
 mod token;
 
+pub use divide::parts;
+pub use input::Parts;
 pub use lexer::lex;
-pub use parts::Parts;
 pub use refused::{LexKind, LexRefused};
 pub use token::{Keyword, Kind, Mark, Spot, Token, Tokens};
