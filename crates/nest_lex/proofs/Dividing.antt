@@ -1,5 +1,5 @@
 -- Lines of a text, and the first that says a marker.
-use Rattle.std.proofs.Common.{◌≡◌, ℕ, ◌+◌, ◌-◌, ◌<◌, ◌≤◌, min, List, length, take, slice_index, slice_range, get_or, refl, sym, ap, subst, ◌∙◌, inl, inr, arith, length-take}
+use Rattle.std.proofs.Common.{◌≡◌, ℕ, ◌+◌, ◌-◌, ◌<◌, ◌≤◌, List, length, take, slice_index, slice_range, get_or, sym, ap, subst, inl, inr, arith, length-take}
 use Rattle.std.proofs.lemmas.Bool.{cases_lt}
 use Rattle.nest_lex.specs.Pieces.{IsLineEnd}
 use Rattle.nest_lex.specs.Parts.{Says, IsMarkerLine, NoneBetween, behind, marker_text}

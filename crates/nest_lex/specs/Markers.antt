@@ -2,7 +2,7 @@
 use Rattle.std.specs.Prelude.{◌≡◌, ℕ, ◌+◌, ◌<◌, ◌≤◌, List, length, slice_index}
 use Rattle.nest_lex.specs.Parts.{IsMarkerLine, NoneBetween}
 use Rattle.nest_lex.specs.declared.input.Marker.{Marker}
-use Rattle.nest_lex.specs.declared.input.Marker.TheVariants.{Data, Steps}
+use Rattle.nest_lex.specs.declared.input.Marker.TheVariants.{Steps}
 use Rattle.nest_lex.specs.declared.input.MarkerLine.{MarkerLine}
 
 -- a line begins here, or the text ends

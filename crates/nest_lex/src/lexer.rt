@@ -32,7 +32,6 @@ pub fn lex(alloc: Global, bytes: &[u8]) -> Result<Tokens, LexRefused>
 }
 
 /// A text has one list of tokens or one first fault, and never both.
-#[tactic(auto, using(crate::proofs::OneAnswer::same_tokens, crate::proofs::OneAnswer::same_fault, crate::proofs::OneAnswer::no_fault))]
 pub fn one_answer()
     ensures tokens { (text : List ℕ) (r t : Tokens) → AreTokens text r → AreTokens text t → r ≡ t }
     ensures fault { (text : List ℕ) (kind other : LexKind) (at place : Spot)
