@@ -8,6 +8,7 @@ use Rattle.nest_lex.specs.declared.input.Marker.{Marker}
 use Rattle.nest_lex.specs.declared.input.Marker.TheVariants.{Data, Steps}
 use Rattle.nest_lex.specs.declared.input.Parts.{Parts}
 
+-- the word of a marker
 abbrev pub marker_text : Marker → List ℕ
 marker_text Data = codes "data"
 marker_text Steps = codes "steps"

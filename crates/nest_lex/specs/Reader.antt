@@ -17,6 +17,7 @@ abbrev pub IsKnown : List (List ℕ) → List ℕ → Piece → Type 0
 IsKnown names bytes piece.Name = list_any (bytes_eq bytes) names ≡ true
 IsKnown names bytes _ = Unit {0}
 
+-- each name among the lexemes is
 abbrev pub AllKnown : List ℕ → List (List ℕ) → List Lexeme → Type 0
 AllKnown text names [] = Unit {0}
 AllKnown text names (lexeme ∷ more) = IsKnown names (bytes_of text lexeme) lexeme.is × AllKnown text names more

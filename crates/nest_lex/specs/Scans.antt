@@ -1,4 +1,4 @@
--- What the scanners find.
+-- What the scanners find. No caller of `lex` needs this.
 use Rattle.std.specs.Prelude.{◌≡◌, ℕ, ◌<◌, ◌≤◌, Bool, true, false, List, length, slice_index, slice_range}
 use Rattle.nest_lex.specs.Bytes.{is_word_byte}
 use Rattle.nest_lex.specs.Spelling.{mark_text}

@@ -20,12 +20,14 @@ fn marker_text(marker: Marker) -> &'static [u8]
     }
 }
 
+/// Whether each byte is a space, a tab or a carriage return.
 fn is_all_space(bytes: &[u8]) -> bool
     ensures { result ≡ list_all is_space_byte bytes.now }
 {
     bytes.iter().all(|byte| is_space(*byte))
 }
 
+/// Whether a line is this word and nothing but blanks behind it.
 fn says(line: &[u8], word: &[u8]) -> bool
     ensures { IsTrue result ↔ Says line.now word.now }
 {
@@ -140,7 +142,11 @@ fn marked_parts(bytes: &[u8], line: MarkerLine) -> Parts
     }
 }
 
-/// Divides an input. The first line `data` or `steps` ends the nest, also inside a comment.
+/// Divides an input into its nest, its data lines and its step words.
+///
+/// The first line `data` or `steps` ends the nest, also inside a comment; spaces, tabs and carriage returns may stand
+/// behind the word, in any mixture. Data lines go up to the first line `steps` or the end. What the data lines and the
+/// step words are is not looked at.
 pub fn parts(bytes: &[u8]) -> Parts
     requires { length bytes.now ≤ 33554432 }
     ensures { IsParts bytes.now result }
