@@ -1,5 +1,5 @@
 -- Lines that end a nest, byte by byte.
-use Rattle.std.proofs.Common.{◌≡◌, ℕ, suc, ◌+◌, ◌-◌, ◌<◌, ◌≤◌, Bool, true, false, cond, eqb, List, [], ◌∷◌, ◌++◌, length, get_or, take, drop, refl, sym, ap, ◌∙◌, subst, add-one, add-zero, drop-cons, length-drop, ne_eqb, arith}
+use Rattle.std.proofs.Common.{◌≡◌, ℕ, suc, ◌+◌, ◌-◌, ◌<◌, ◌≤◌, Bool, false, eqb, List, [], ◌∷◌, ◌++◌, length, get_or, take, drop, refl, sym, ap, ◌∙◌, add-one, drop-cons, length-drop, ne_eqb, arith}
 use Rattle.std.specs.Prelude.{◌||◌, slice_range}
 use Rattle.std.specs.List.{list_any}
 use Rattle.std.proofs.Math.Seq.{take-suc}
@@ -37,5 +37,5 @@ at_other text start at s h b =
     let place : start + (at - start) ≡ at = omega arith in
     let byte : get_or (drop start text) (at - start) 0 ≡ get_or text at 0 = get_or-drop start text (at - start) 0 ∙ ap (λ i. get_or text i 0) place in
     let grown : slice_range text start (at + 1) ≡ slice_range text start at ++ get_or text at 0 ∷ [] =
-        ap (λ n. take n (drop start text)) more ∙ take-suc (drop start text) (at - start) 0 inside ∙ ap (λ x. slice_range text start at ++ x ∷ []) byte in
+    ap (λ n. take n (drop start text)) more ∙ take-suc (drop start text) (at - start) 0 inside ∙ ap (λ x. slice_range text start at ++ x ∷ []) byte in
     ap (ends_in (slice_range text start at)) (at_place text at h) ∙ other (slice_range text start at) (drop (at + 1) text) (get_or text at 0) b ∙ ap (λ f. ends_in f (drop (at + 1) text)) (sym grown)

@@ -1,5 +1,5 @@
 -- The grammar of the first form, and the texts of it.
-use Rattle.std.specs.Prelude.{◌≡◌, ℕ, zero, suc, ◌≤◌, pos, Bool, false, ◌==◌, ◌&&◌, ◌||◌, not, nat_eq, Option, Some, None, List, [], ◌∷◌, ◌++◌, length, take, drop, codes, if◌then◌else◌}
+use Rattle.std.specs.Prelude.{◌≡◌, ℕ, zero, suc, ◌≤◌, pos, Bool, false, ◌==◌, ◌&&◌, ◌||◌, nat_eq, Option, Some, None, List, [], ◌∷◌, ◌++◌, length, drop, codes, if◌then◌else◌}
 use Rattle.std.specs.List.{list_all, list_any, starts_with}
 use Rattle.nest_syntax.specs.declared.names.Line.{Line}
 use Rattle.nest_syntax.specs.declared.operators.Bin.{Bin}
@@ -85,7 +85,7 @@ declaration_kinds array length =
 
 -- A header is on the line of its `for`.
 pub record IsHeader (tokens : List Token) (turns : Turns) (rest : List Token) : Type 0 where
-  pub line : turns.line ≡ line_of tokens
+  pub on : turns.line ≡ line_of tokens
   pub spelled : Begins tokens (header_kinds turns.name turns.low turns.high) rest
 
 -- The declaration is on the line of its `long`.

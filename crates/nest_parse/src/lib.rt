@@ -13,3 +13,6 @@ mod text;
 
 pub use first::parse_first;
 pub use refused::FirstRefused;
+
+#[cfg(test)]
+mod tests;
