@@ -1,5 +1,5 @@
 -- How the bytes of a token are written.
-use Rattle.std.specs.Prelude.{◌≡◌, ℕ, ◌+◌, ◌-◌, ◌*◌, ◌≤◌, Bool, true, List, [], ◌∷◌, length, IsTrue, ◌==◌, slice_index, codes, fold}
+use Rattle.std.specs.Prelude.{◌≡◌, ℕ, ◌+◌, ◌-◌, ◌*◌, ◌≤◌, true, List, length, slice_index, codes, fold}
 use Rattle.std.specs.List.{list_all}
 use Rattle.nest_lex.specs.Bytes.{is_letter, is_digit, is_word_byte}
 use Rattle.nest_lex.specs.declared.token.Keyword.{Keyword}

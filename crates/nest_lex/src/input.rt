@@ -1,4 +1,4 @@
-ghost use Rattle.std.specs.Prelude.{◌≡◌};
+//! The parts of the input: the nest, the data lines, the step words.
 
 /// The parts of an input, by places in its bytes, from 0.
 #[derive(Clone, Copy, Debug, PartialEq, Eq)]
@@ -13,9 +13,17 @@ pub struct Parts {
     pub steps: Option<usize>,
 }
 
-/// A line that ends a part of the input.
+/// What a line says that ends a part.
 #[derive(Clone, Copy, Debug, PartialEq, Eq)]
 pub enum Marker {
     Data,
     Steps,
+}
+
+/// A line that says a marker: where it begins, and where its line feed or the end is.
+#[derive(Clone, Copy, Debug, PartialEq, Eq)]
+pub struct MarkerLine {
+    pub marker: Marker,
+    pub start: usize,
+    pub stop: usize,
 }
