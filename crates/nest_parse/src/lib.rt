@@ -7,7 +7,6 @@ mod expression;
 mod first;
 mod form;
 mod kinds;
-mod lines;
 mod refused;
 mod text;
 
