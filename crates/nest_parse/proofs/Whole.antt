@@ -21,7 +21,7 @@ use Rattle.nest_lex.specs.declared.token.Tokens.{Tokens}
 use Rattle.nest_parse.specs.declared.text.Nest.{Nest}
 use Rattle.nest_parse.specs.declared.refused.FirstRefused.{FirstRefused}
 use Rattle.nest_parse.specs.declared.refused.FirstRefused.TheVariants.{NoMemory}
-use Rattle.nest_parse.specs.First.{AreFirst, AllNest, IsFirst}
+use Rattle.nest_parse.specs.First.{AreFirst, IsAllNest, IsFirst}
 use Rattle.nest_parse.specs.Reading.{Reads, Nests, first_of, is_operator, IsFitting, ReadsTokens, ReadsNest}
 use Rattle.nest_parse.proofs.Counts.{all_operators}
 
@@ -138,7 +138,7 @@ no_nest {tokens = tokens} t n program is =
     n.only (nest_for is.derives.first) here (fits_from keeps) (few_from here keeps)
 
 -- the program
-pub is_first : {text : List ℕ} {tokens : Tokens} {nest : Nest} → list_any (λ b. b == 47) text ≡ false → AllNest text
+pub is_first : {text : List ℕ} {tokens : Tokens} {nest : Nest} → list_any (λ b. b == 47) text ≡ false → IsAllNest text
     → ReadsTokens text (Ok tokens) → ReadsNest tokens.list (Ok nest) → IsFirst text (program_of tokens.names (first_of nest))
 is_first {tokens = tokens} {nest = nest} comment all_nest t n = record {
   tokens = tokens;

@@ -128,7 +128,7 @@ pub record DerivesFirst (tokens : Tokens) (program : Program) : Type 0 where
   pub is : program ≡ program_of tokens.names first
 
 -- No line `data` or `steps` ends the nest before the end of the text.
-pub record AllNest (text : List ℕ) : Type 0 where
+pub record IsAllNest (text : List ℕ) : Type 0 where
   pub no_data : NoneBetween text Data 0 (length text)
   pub no_steps : NoneBetween text Steps 0 (length text)
 
@@ -138,6 +138,6 @@ pub record IsFirst (text : List ℕ) (program : Program) : Type 0 where
   pub tokens : Tokens
   pub are : AreTokens text tokens
   pub no_comment : list_any (λ b. b == 47) text ≡ false
-  pub all_nest : AllNest text
+  pub all_nest : IsAllNest text
   pub derives : DerivesFirst tokens program
   pub form : IsFirstForm program

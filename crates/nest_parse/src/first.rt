@@ -2,7 +2,7 @@
 ghost use Rattle.std.specs.Prelude.{◌≡◌, ◌≤◌, ◌↔◌, IsTrue, length, IfOk, MatchResult};
 ghost use Rattle.nest_syntax.specs.declared.tree.Program.{Program};
 ghost use Rattle.nest_syntax.specs.Named.{IsWellNamed};
-ghost use Rattle.nest_parse.specs.First.{AllNest, IsFirst};
+ghost use Rattle.nest_parse.specs.First.{IsAllNest, IsFirst};
 ghost use Rattle.nest_parse.specs.Reading.{ReadsTokens, ReadsNest};
 
 use crate::build::program;
@@ -18,7 +18,7 @@ use std::alloc::Global;
 #[tactic(auto, using(crate::proofs::WholeNest::ends_early, crate::proofs::WholeNest::ends_last))]
 fn is_all_nest(bytes: &[u8]) -> bool
     requires { length bytes.now ≤ 33554432 }
-    ensures { IsTrue result ↔ AllNest bytes.now }
+    ensures { IsTrue result ↔ IsAllNest bytes.now }
 {
     bytes.len() <= parts(bytes).nest_end
 }
