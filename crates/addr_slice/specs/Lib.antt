@@ -1,0 +1,4 @@
+pub mod Claims
+pub mod Walk
+pub mod Within
+pub mod WordSet
