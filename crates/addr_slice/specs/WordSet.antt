@@ -20,6 +20,7 @@ flags_of count rows = map (in_rows rows) (range_with_len 0 count)
 pub record IsSummed (count : ℕ) (rows summary : List ℕ) : Type 0 where
   pub few : count ≤ 1048576
   pub few_rows : length rows ≤ 16384
+  pub few_bits : length summary ≤ 16384
   pub a_row_each : count ≤ 64 * length rows
   pub a_bit_each : length rows ≤ 64 * length summary
   pub none_behind : (n : ℕ) → count ≤ n → in_rows rows n ≡ false

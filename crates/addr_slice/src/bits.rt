@@ -1,4 +1,4 @@
-ghost use Rattle.std.specs.Prelude.{◌≡◌, ◌≢◌, ℕ, ◌+◌, ◌*◌, ◌/◌, ◌<◌, ◌≤◌, true, length, slice_index, IfSome};
+ghost use Rattle.std.specs.Prelude.{◌≡◌, ◌≢◌, ℕ, ◌+◌, ◌*◌, ◌/◌, ◌<◌, ◌≤◌, true, nat_lt, length, slice_index, IfSome};
 ghost use Rattle.addr_slice.specs.Claims.{IsNext};
 ghost use Rattle.addr_slice.specs.WordSet.{has_bit, in_rows};
 
@@ -79,4 +79,26 @@ pub fn next_in_rows(rows: &[u64], from: usize) -> Option<usize>
         }
     }
     None
+}
+
+/// Sets to 0 each row whose number is in the summary, which are all that aren't 0.
+pub fn empty_rows(rows: &mut [u64], summary: &[u64])
+    requires few { length summary.now ≤ 16384 }
+    requires exact { (row : ℕ) → in_rows summary.now row ≡ nat_lt 0 (slice_index rows.old row) }
+    ensures { (row : ℕ) → slice_index rows.new row ≡ 0 }
+{
+    let mut from = 0;
+    while let Some(row) = next_in_rows(summary, from) {
+        rows[row] = 0;
+        from = row + 1;
+    }
+}
+
+/// Sets all rows to 0.
+pub fn empty_all_rows(rows: &mut [u64])
+    ensures { (row : ℕ) → slice_index rows.new row ≡ 0 }
+{
+    for row in rows.iter_mut() {
+        *row = 0;
+    }
 }

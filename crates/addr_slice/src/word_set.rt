@@ -1,7 +1,7 @@
 ghost use Rattle.std.specs.Prelude.{◌≡◌, ◌<◌, ◌≤◌, true, false, IfOk, length, replicate, slice_set};
 ghost use Rattle.addr_slice.specs.Claims.{is_set, IsNext};
 
-use crate::bits::{ROW, in_rows, least_bit, next_bit, next_in_rows, put_in_rows};
+use crate::bits::{ROW, empty_all_rows, empty_rows, in_rows, least_bit, next_bit, next_in_rows, put_in_rows};
 use nest_syntax::NoMemory;
 use std::alloc::Global;
 use std::marker::Model;
@@ -31,11 +31,13 @@ impl WordSet {
         requires { count ≤ 1048576 }
         ensures { IfOk result (λ made. made ≡ replicate count false) }
     {
-        let rows = count.div_ceil(ROW);
+        let row_count = count.div_ceil(ROW);
+        let rows = vec![in alloc; 0u64; row_count]?;
+        let summary = vec![in alloc; 0u64; row_count.div_ceil(ROW)]?;
         Ok(WordSet {
             count,
-            rows: vec![in alloc; 0u64; rows]?,
-            summary: vec![in alloc; 0u64; rows.div_ceil(ROW)]?,
+            rows,
+            summary,
         })
     }
 
@@ -77,13 +79,7 @@ impl WordSet {
     pub fn clear(&mut self)
         ensures { self.new ≡ replicate (length self.old) false }
     {
-        let mut from = 0;
-        while let Some(row) = next_in_rows(&self.summary, from) {
-            self.rows[row] = 0;
-            from = row + 1;
-        }
-        for bits in self.summary.iter_mut() {
-            *bits = 0;
-        }
+        empty_rows(&mut self.rows, &self.summary);
+        empty_all_rows(&mut self.summary);
     }
 }
