@@ -1,6 +1,6 @@
 -- The flags of a set against its rows.
 use Rattle.std.proofs.Common.{◌≡◌, ◌≢◌, ℕ, suc, ◌+◌, ◌-◌, ◌*◌, ◌/◌, ◌%◌, ◌<◌, ◌≤◌, Bool, true, false, Option, Some, None, IsTrue, List, length, get_or, set, map, replicate, nat_lt, ◌⊎◌, ⊎_elim, refl, ap, sym, ◌∙◌, arith}
-use Rattle.std.proofs.lemmas.Bool.{lt-ltb, ltb-true, ltb-false, cases_lt, cases_eq}
+use Rattle.std.proofs.lemmas.Bool.{lt-ltb, ltb-true, ltb-false, cases_lt, cases_eq, true≢false}
 use Rattle.std.proofs.lemmas.List.{get_or_past, get_or-set_same, get_or-set_other, get_or-replicate, length-replicate, length-set, ext_get_or}
 use Rattle.std.proofs.lemmas.List.FromFn.{length-map-range_with_len, get_or-map-range_with_len}
 use Rattle.addr_slice.specs.Claims.{IsNext, is_set}
@@ -112,3 +112,10 @@ IsSummed-empty count rows summary few few_rows few_bits a_row_each a_bit_each em
   none_behind = λ k behind. in_rows-empty rows empty k;
   exact = λ row. in_rows-empty summary none row ∙ sym (ap (nat_lt 0) (empty row))
 }
+
+pub get_or-zeros : (n row : ℕ) → get_or {A = ℕ} (replicate n 0) row 0 ≡ 0
+get_or-zeros n row = ⊎_elim (get_or-replicate n row 0 0) (λ past. get_or_past (replicate n 0) row 0 (omega (arith, length-replicate n 0))) (cases_lt row n)
+
+-- a flag that is set is one of the list
+pub is_set-within : (flags : List Bool) (n : ℕ) → is_set flags n ≡ true → n < length flags
+is_set-within flags n is = let not_past : length flags ≤ n → ⊥ = λ past. true≢false (sym is ∙ get_or_past flags n false past) in omega arith

@@ -1,4 +1,4 @@
-ghost use Rattle.std.specs.Prelude.{◌≡◌, ◌<◌, ◌≤◌, ◌↔◌, IsTrue, IfOk, sum};
+ghost use Rattle.std.specs.Prelude.{◌≡◌, ◌<◌, ◌≤◌, ◌↔◌, IsTrue, IfOk, IfSome, sum};
 ghost use Rattle.word_store.specs.Memory.{most_words};
 ghost use Rattle.addr_slice.specs.Claims.{words_of, has, is_claimed, no_claims, with_claim, IsNext, Clash};
 
@@ -63,7 +63,9 @@ impl Claims {
     /// is none. It passes 4,096 words at a time where none is claimed; a walk over all claimed words costs as much as
     /// they are, and one step for each 4,096 words of the program.
     pub fn next_from(&self, word: u32) -> Option<u32>
-        ensures { IsNext (is_claimed self.now) word result }
+        ensures next { IsNext (is_claimed self.now) word result }
+        ensures within { IfSome result (λ next. next < words_of self.now) }
+        ensures few { words_of self.now ≤ most_words }
     {
         let read = self.reads.next_from(word as usize);
         let write = self.writes.next_from(word as usize);

@@ -5,7 +5,9 @@
 #![tactic(auto)]
 
 mod bits;
+mod walk;
 mod claim_set;
 mod word_set;
 
 pub use claim_set::Claims;
+pub use walk::claims;
