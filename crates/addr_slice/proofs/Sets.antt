@@ -114,7 +114,7 @@ IsSummed-empty count rows summary few few_rows few_bits a_row_each a_bit_each em
 }
 
 pub get_or-zeros : (n row : ℕ) → get_or {A = ℕ} (replicate n 0) row 0 ≡ 0
-get_or-zeros n row = ⊎_elim (get_or-replicate n row 0 0) (λ past. get_or_past (replicate n 0) row 0 (omega (arith, length-replicate n 0))) (cases_lt row n)
+get_or-zeros n row = let none : ℕ = 0 in ⊎_elim (get_or-replicate n row none none) (λ past. get_or_past (replicate n none) row none (omega (arith, length-replicate n none))) (cases_lt row n)
 
 -- a flag that is set is one of the list
 pub is_set-within : (flags : List Bool) (n : ℕ) → is_set flags n ≡ true → n < length flags
