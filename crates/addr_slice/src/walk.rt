@@ -1,4 +1,9 @@
-ghost use Rattle.std.specs.Prelude.{◌≡◌, ◌≤◌, ◌==◌, ◌||◌, true, false, [], IsTrue, sum, is_err};
+ghost use Rattle.std.specs.Prelude.{◌≡◌, ◌≤◌, ◌==◌, ◌||◌, ℕ, true, false, [], ◌∷◌, IsTrue, IsSomeAnd, sum, is_err};
+ghost use Rattle.std.specs.Option.{option_copied};
+ghost use Rattle.nest_syntax.specs.declared.names.Line.{Line};
+ghost use Rattle.nest_syntax.specs.declared.operators.Op.{Op as Change};
+ghost use Rattle.nest_syntax.specs.declared.tree.Expr.{Expr as Expression};
+ghost use Rattle.nest_syntax.specs.declared.tree.Loop.{Loop as Nest};
 ghost use Rattle.nest_syntax.specs.Arrays.{arrays_of, sizes_of};
 ghost use Rattle.nest_syntax.specs.FirstForm.{IsFirstForm, is_allowed, is_arithmetic};
 ghost use Rattle.nest_syntax.specs.Value.{value, scalar_at, operate};
@@ -7,7 +12,8 @@ ghost use Rattle.addr_slice.specs.Walk.{walk, touched, walk_of_write, claims_of}
 ghost use Rattle.addr_slice.specs.Iteration.{arrays_in, scalars_in};
 
 use crate::claim_set::Claims;
-use nest_syntax::{Bin, Decl, Expr, Program, Stmt};
+use nest_syntax::{Bin, Decl, Expr, Loop, Program, Stmt};
+use sqlite_items::Items;
 use word_store::apply;
 
 /// Puts the claims of an iteration into `into` and nothing else: whatever was claimed there before is forgotten. `outer`
@@ -27,10 +33,10 @@ pub fn claims(program: &Program, outer: i64, inner: i64, into: &mut Claims)
     let Some(region) = program.regions.get(0) else {
         unreachable!()
     };
-    let Some(Stmt::Loop(invocation)) = region.body.get(0) else {
+    let Some(invocation) = only_loop(&region.body) else {
         unreachable!()
     };
-    let Some(Stmt::Write { place, value, .. }) = invocation.body.get(0) else {
+    let Some((place, value)) = only_write(&invocation.body) else {
         unreachable!()
     };
     let iteration = Iteration {
@@ -42,6 +48,28 @@ pub fn claims(program: &Program, outer: i64, inner: i64, into: &mut Claims)
         inner,
     };
     let _ = iteration.walk_write(place, value, into);
+}
+
+/// The loop of a block that is one loop.
+fn only_loop(block: &Items<Stmt>) -> Option<&Loop>
+    ensures { (inner : Nest) → block.now ≡ Stmt.Loop inner ∷ [] → option_copied result ≡ Some inner }
+{
+    match block.get(0) {
+        Some(Stmt::Loop(inner)) => Some(inner),
+        _ => None,
+    }
+}
+
+/// The place and the value of a block that is one write.
+fn only_write(block: &Items<Stmt>) -> Option<(&Expr, &Expr)>
+    ensures { (line : Line) (array : ℕ) (place : Expression) (op : Change) (value : Expression)
+        → block.now ≡ Stmt.Write line array place op value ∷ []
+        → IsSomeAnd result (λ parts. (parts.0.now ≡ place) × (parts.1.now ≡ value)) }
+{
+    match block.get(0) {
+        Some(Stmt::Write { place, value, .. }) => Some((place, value)),
+        _ => None,
+    }
 }
 
 /// A walk ended early: a subscript is outside the array.
