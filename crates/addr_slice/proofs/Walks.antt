@@ -5,14 +5,15 @@ use Rattle.std.proofs.lemmas.List.{length-set}
 use Rattle.nest_syntax.specs.declared.operators.Bin.{Bin}
 use Rattle.nest_syntax.specs.declared.tree.Expr.{Expr}
 use Rattle.nest_syntax.specs.declared.tree.Expr.TheOpen.{Expr-F}
-use Rattle.nest_syntax.specs.declared.tree.Expr.TheFolds.{fold-roll-Expr, para-roll-Expr}
+use Rattle.nest_syntax.specs.declared.tree.Expr.TheFolds.{para-roll-Expr}
 use Rattle.nest_syntax.specs.declared.tree.Expr.TheVariants as expr
 use Rattle.nest_syntax.specs.declared.tree.Expr.TheVariants.{rolls-Number, rolls-Scalar, rolls-Word, rolls-Binary}
 use Rattle.nest_syntax.specs.Arrays.{Array}
 use Rattle.nest_syntax.specs.Value.{value}
 use Rattle.nest_syntax.specs.declared.operators.Cause.{Cause}
-use Rattle.nest_syntax.specs.FirstForm.{is_allowed, node_allowed}
+use Rattle.nest_syntax.specs.FirstForm.{is_allowed}
 use Rattle.addr_slice.specs.Claims.{Claim, Claimed, with_claim, with_claims, words_of}
+use Rattle.addr_slice.proofs.Nodes.{allowed-word}
 use Rattle.addr_slice.specs.Walk.{Walk, nothing, and_then_walk, touched, walk_node, walk}
 
 module _ (arrays : List Array) (scalars : List ℤ) where
@@ -31,14 +32,9 @@ module _ (arrays : List Array) (scalars : List ℤ) where
   pub walk-of_variable : (e : Expr) → ((n : ℤ) × (e ≡ expr.Number n)) ⊎ ((name : ℕ) × (e ≡ expr.Scalar name)) → walk arrays scalars e ≡ nothing
   walk-of_variable e is = ⊎_elim (λ (n : (n : ℤ) × (e ≡ expr.Number n)). ap (walk arrays scalars) n.1 ∙ walk-number n.0) (λ (x : (name : ℕ) × (e ≡ expr.Scalar name)). ap (walk arrays scalars) x.1 ∙ walk-scalar x.0) is
 
--- what is allowed in an expression, at a word and at an operation
-module _ (array outer inner : ℕ) where
-  allowed-word : (name : ℕ) (place : Expr) → is_allowed array outer inner (expr.Word name place) true ≡ (name == array && is_allowed array outer inner place false)
-  allowed-word name place = ap (λ e. is_allowed array outer inner e true) (sym (rolls-Word name place)) ∙ ap (λ f. f true) (fold-roll-Expr (Bool → Bool) (node_allowed array outer inner) (Expr-F.Word name place))
-
-  -- a word that is allowed is one of the program's array
-  pub array-of_word : (name : ℕ) (place : Expr) → IsTrue (is_allowed array outer inner (expr.Word name place) true) → name ≡ array
-  array-of_word name place is = eqb-true name array (and_parts (name == array) (is_allowed array outer inner place false) (sym (allowed-word name place) ∙ is)).0
+-- a word that is allowed is one of the program's array
+pub array-of_word : (array outer inner name : ℕ) (place : Expr) → IsTrue (is_allowed array outer inner (expr.Word name place) true) → name ≡ array
+array-of_word array outer inner name place is = eqb-true name array (and_parts (name == array) (is_allowed array outer inner place false) (sym (allowed-word array outer inner true name place) ∙ is)).0
 
 words_of-with_claim : (claims : Claimed) (word : ℕ) (write : Bool) → words_of (with_claim claims word write) ≡ words_of claims
 words_of-with_claim claims word true = refl

@@ -7,7 +7,9 @@
 mod bits;
 mod walk;
 mod claim_set;
+mod law;
 mod word_set;
 
 pub use claim_set::Claims;
+pub use law::claims_hold_turns;
 pub use walk::claims;
