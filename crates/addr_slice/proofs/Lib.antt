@@ -6,3 +6,4 @@ pub mod Parts
 pub mod Held
 pub mod Room
 pub mod Sound
+pub mod Bodies
