@@ -35,7 +35,7 @@ touched arrays name write (Ok at) = option_map_or (λ (p : ℕ × ℕ). claim (w
 touched arrays name write (Err cause) = trap
 
 -- The walk of an expression, from left to right. A subscript names no word of the array: it has its value, and no claim.
--- The first form has neither unary operators nor choices.
+-- The first form has none of the operators that leave a part out (`&&`, `||`, `?:`), and no unary one.
 abbrev pub walk_node : List Array → List ℤ → Expr-F (Expr × Walk) → Walk
 walk_node arrays scalars (Expr-F.Number n) = nothing
 walk_node arrays scalars (Expr-F.Scalar name) = nothing
