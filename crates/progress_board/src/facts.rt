@@ -20,7 +20,9 @@ pub enum RollCause {
         array: u32,
     },
     /// A task trapped while it was ahead.
-    Trap { task: TaskName },
+    Trap {
+        task: TaskName,
+    },
 }
 
 /// A rollback: the segment, by the number of commits before, and its cause.

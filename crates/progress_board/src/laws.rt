@@ -9,11 +9,9 @@ use crate::machine::Machine;
 /// No legal history is longer than the measure of the opening state.
 pub fn is_bounded<M: Machine>()
     ensures { (job : Job) (options : Options) (history : List ℕ) (m : M) → IsInRange options → run M.step (M.opening job options) history ≡ Some m → length history ≤ M.measure (M.opening job options) }
-{
-}
+{}
 
 /// A history that finishes the machine can't be extended.
 pub fn is_over<M: Machine>()
     ensures { (job : Job) (options : Options) (history more : List ℕ) (m : M) → IsInRange options → IsComplete M.step M.is_finished (M.opening job options) history → run M.step (M.opening job options) (history ++ more) ≡ Some m → more ≡ [] }
-{
-}
+{}
