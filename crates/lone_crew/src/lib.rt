@@ -1,13 +1,9 @@
-// A library with one function.
+//! One thread that drives any machine to its end.
+//!
+//! In come a machine, a schedule and a history. Out go the machine, finished, and the history with the steps that were
+//! made: those of the schedule that were enabled, and then the rotation.
 #![tactic(auto)]
 
-ghost use Rattle.std.specs.Prelude.{◌≡◌};
-ghost use Rattle.lone_crew.specs.Echo.{echo_of};
+mod lone;
 
-// The `ensures` clause is the contract: what `echo` returns is `echo_of` of its argument, a definition
-// in `specs/Echo.antt`, which a caller's clause can cite too.
-pub fn echo(x: usize) -> usize
-    ensures { result ≡ echo_of x }
-{
-    x
-}
+pub use lone::lone_run;

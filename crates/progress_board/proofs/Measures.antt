@@ -79,3 +79,15 @@ module _ {S : Type 0} (step : S → ℕ → Option S) (P : S → Type 0) (kept :
   agrees_le s t history longer p one =
       let made : length longer ≡ length history + length one.made = ap length one.appended ∙ length-append history one.made in
       omega (arith, run_le s t one.made p one.ran)
+
+  -- looks don't make it grow
+  pub goes_falls : (s t : S) (history looks longer : List ℕ) → P s → GoesOn step s history looks t longer → measure t ≤ measure s
+  goes_falls s t history looks longer p goes =
+      let there : measure t ≡ measure (after step s looks) = ap measure goes.state in
+      omega (arith, taken_le s looks p)
+
+  -- a round of an unfinished machine makes it fall
+  pub round_goes_falls : (s t : S) (n : ℕ) (history longer : List ℕ) → P s → SomeEnabled step s n → GoesOn step s history (up_to n) t longer → measure t + 1 ≤ measure s
+  round_goes_falls s t n history longer p some goes =
+      let there : measure t ≡ measure (after step s (up_to n)) = ap measure goes.state in
+      omega (arith, round_falls s n p some)

@@ -1,5 +1,5 @@
 -- Lemmas on looks at one actor after another, and on rounds of them.
-use Rattle.std.proofs.Common.{◌≡◌, ℕ, zero, suc, ◌+◌, ◌-◌, ◌≤◌, Option, None, Some, List, [], ◌∷◌, ◌++◌, refl, ap, ◌∙◌, sym, arith}
+use Rattle.std.proofs.Common.{◌≡◌, ℕ, zero, suc, ◌+◌, ◌-◌, ◌≤◌, Option, None, Some, List, [], ◌∷◌, ◌++◌, refl, ap, ◌∙◌, sym, subst, arith}
 use Rattle.std.proofs.lemmas.List.{append-nil, append_assoc}
 use Rattle.std.specs.Option.{option_map_or}
 use Rattle.progress_board.specs.Runs.{run, Agrees}
@@ -46,6 +46,13 @@ module _ {S : Type 0} (step : S → ℕ → Option S) where
         front ∙ append_assoc history (taken step s first) (taken step t second) ∙ ap (λ (l : List ℕ). history ++ (taken step s first ++ l)) back ∙ ap (λ (l : List ℕ). history ++ l) (sym (taken-append s first second));
     state = other.state ∙ ap (λ (v : S). after step v second) one.state ∙ sym (after-append s first second);
   }
+
+  -- one round more behind the schedule
+  pub goes_round : (s t u : S) (n k : ℕ) (history longer longest schedule : List ℕ) → GoesOn step s history (schedule ++ rounds n k) t longer → GoesOn step t longer (up_to n) u longest
+      → GoesOn step s history (schedule ++ rounds n (suc k)) u longest
+  goes_round s t u n k history longer longest schedule one other =
+      subst (λ (looks : List ℕ). GoesOn step s history looks u longest) (append_assoc schedule (rounds n k) (up_to n))
+      (goes_more s t u history longer longest (schedule ++ rounds n k) (up_to n) one other)
 
   -- what goes on, agrees
   pub agrees : (s t : S) (history looks longer : List ℕ) → GoesOn step s history looks t longer → Agrees step s history t longer
