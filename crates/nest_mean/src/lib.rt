@@ -1,6 +1,6 @@
 //! A program with its opening words.
 #![tactic(auto)]
 
-mod job;
+mod jobs;
 
-pub use job::Job;
+pub use jobs::Job;

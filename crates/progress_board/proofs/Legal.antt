@@ -2,6 +2,7 @@
 use Rattle.std.proofs.Common.{◌≡◌, ℕ, ◌<◌, ◌≤◌, false, Option, None, Some, List, [], ◌∷◌, refl, ap, ◌∙◌, sym, subst, ⊎_elim}
 use Rattle.std.specs.Prelude.{is_some}
 use Rattle.std.proofs.lemmas.Bool.{cases_lt, false≢true}
+use Rattle.nest_mean.specs.Nest.{Nest, CanRun}
 use Rattle.progress_board.specs.declared.options.Options.{Options}
 use Rattle.progress_board.specs.declared.actors.Ask.{Ask}
 use Rattle.progress_board.specs.declared.actors.Ask.TheVariants.{Ended}
@@ -10,15 +11,16 @@ use Rattle.progress_board.specs.Actors.{is_ready, AllEnded}
 use Rattle.progress_board.specs.Runs.{run, IsReached, IsLegal}
 use Rattle.progress_board.proofs.Runs.{reached_step, run_keeps}
 
-module _ {S J : Type 0} (job_of : S → J) (options_of : S → Options) (opening : J → Options → S) (step : S → ℕ → Option S)
+module _ {S : Type 0} (job_of : S → Nest) (options_of : S → Options) (opening : Nest → Options → S) (step : S → ℕ → Option S)
     (keeps_job : (s t : S) (a : ℕ) → step s a ≡ Some t → job_of t ≡ job_of s) (keeps_options : (s t : S) (a : ℕ) → step s a ≡ Some t → options_of t ≡ options_of s) where
   -- one step more
   pub legal_step : (s t : S) (a : ℕ) → IsLegal job_of options_of opening step s → step s a ≡ Some t → IsLegal job_of options_of opening step t
   legal_step s t a legal e = record {
+    runs = subst CanRun (sym (keeps_job s t a e)) legal.runs;
     allowed = subst IsInRange (sym (keeps_options s t a e)) legal.allowed;
     reached =
         let from : opening (job_of s) (options_of s) ≡ opening (job_of t) (options_of t) =
-        ap (λ (j : J). opening j (options_of s)) (sym (keeps_job s t a e)) ∙ ap (λ (o : Options). opening (job_of t) o) (sym (keeps_options s t a e)) in
+        ap (λ (j : Nest). opening j (options_of s)) (sym (keeps_job s t a e)) ∙ ap (λ (o : Options). opening (job_of t) o) (sym (keeps_options s t a e)) in
         subst (λ (v : S). IsReached step v t) from (reached_step step (opening (job_of s) (options_of s)) s t a legal.reached e);
   }
 
@@ -31,9 +33,10 @@ module _ {S J : Type 0} (job_of : S → J) (options_of : S → Options) (opening
   options_run s t history ran = run_keeps step (λ (v : S). options_of v ≡ options_of s) (λ u v a same e. keeps_options u v a e ∙ same) s t history refl ran
 
 -- an opening state is legal
-pub legal_opening : {S J : Type 0} (job_of : S → J) (options_of : S → Options) (opening : J → Options → S) (step : S → ℕ → Option S) (job : J) (options : Options)
-    → job_of (opening job options) ≡ job → options_of (opening job options) ≡ options → IsInRange options → IsLegal job_of options_of opening step (opening job options)
-legal_opening job_of options_of opening step job options same_job same_options allowed = record {
+pub legal_opening : {S : Type 0} (job_of : S → Nest) (options_of : S → Options) (opening : Nest → Options → S) (step : S → ℕ → Option S) (job : Nest) (options : Options)
+    → job_of (opening job options) ≡ job → options_of (opening job options) ≡ options → CanRun job → IsInRange options → IsLegal job_of options_of opening step (opening job options)
+legal_opening job_of options_of opening step job options same_job same_options runs allowed = record {
+  runs = subst CanRun (sym same_job) runs;
   allowed = subst IsInRange (sym same_options) allowed;
   reached = record { history = []; ran = rw (same_job, same_options) refl };
 }

@@ -2,6 +2,7 @@
 -- gives the state behind an actor's step, or none where no row of that actor is enabled.
 use Rattle.std.specs.Prelude.{◌≡◌, ℕ, Bool, true, Option, Some, List, [], ◌∷◌, ◌++◌}
 use Rattle.std.specs.Option.{option_and_then}
+use Rattle.nest_mean.specs.Nest.{Nest, CanRun}
 use Rattle.progress_board.specs.declared.options.Options.{Options}
 use Rattle.progress_board.specs.Options.{IsInRange}
 
@@ -16,9 +17,10 @@ pub record IsReached {S : Type 0} (step : S → ℕ → Option S) (from to : S) 
   pub history : List ℕ
   pub ran : run step from history ≡ Some to
 
--- A state is legal where its options are in their ranges, and it is reached from the opening state of its own job and
--- options.
-pub record IsLegal {S J : Type 0} (job_of : S → J) (options_of : S → Options) (opening : J → Options → S) (step : S → ℕ → Option S) (s : S) : Type 0 where
+-- A state is legal where its job can be run, its options are in their ranges, and it is reached from the opening state
+-- of its own job and options.
+pub record IsLegal {S : Type 0} (job_of : S → Nest) (options_of : S → Options) (opening : Nest → Options → S) (step : S → ℕ → Option S) (s : S) : Type 0 where
+  pub runs : CanRun (job_of s)
   pub allowed : IsInRange (options_of s)
   pub reached : IsReached step (opening (job_of s) (options_of s)) s
 

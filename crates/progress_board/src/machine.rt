@@ -1,5 +1,5 @@
 ghost use Rattle.std.specs.Prelude.{◌≡◌, ◌≢◌, ◌↔◌, ℕ, ◌+◌, ◌<◌, ◌≤◌, Bool, true, false, Option, Some, None, is_some, IfOk, IfErr};
-ghost use Rattle.nest_mean.specs.declared.job.Job.{Job};
+ghost use Rattle.nest_mean.specs.declared.jobs.Job.{Job};
 ghost use Rattle.word_store.specs.declared.memory.Words.{Words};
 ghost use Rattle.progress_board.specs.declared.options.Options.{Options};
 ghost use Rattle.progress_board.specs.declared.actors.Ask.{Ask};

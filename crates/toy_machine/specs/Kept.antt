@@ -1,5 +1,6 @@
 -- What the relay's state keeps.
 use Rattle.std.specs.Prelude.{◌≡◌, ℕ, ◌≤◌, true}
+use Rattle.nest_mean.specs.Nest.{CanRun}
 use Rattle.progress_board.specs.declared.facts.Facts.{Facts}
 use Rattle.progress_board.specs.Options.{IsInRange}
 use Rattle.progress_board.specs.Runs.{IsReached}
@@ -13,6 +14,7 @@ pub record IsSound (s : State) : Type 0 where
   pub halted : s.halted ≡ true → s.handed ≡ s.options.queue
 
 pub record IsKept (s : State) (facts : Facts) : Type 0 where
+  pub runs : CanRun s.job
   pub allowed : IsInRange s.options
   pub sound : IsSound s
   pub reached : IsReached step (opening s.job s.options) s

@@ -4,7 +4,7 @@ use Rattle.std.specs.Option.{option_map}
 use Rattle.std.proofs.Common.{arith, ap, ◌∙◌, sym, subst, ⊎_elim}
 use Rattle.std.proofs.lemmas.Bool.{cases_lt, cases_Bool}
 use Rattle.std.proofs.lemmas.Bool.Decides.{nat_tests}
-use Rattle.nest_mean.specs.Nest.{Nest}
+use Rattle.nest_mean.specs.Nest.{Nest, CanRun}
 use Rattle.progress_board.specs.Options.{IsInRange}
 use Rattle.progress_board.specs.Runs.{IsReached}
 use Rattle.progress_board.specs.declared.options.Options.{Options}
@@ -145,6 +145,7 @@ sound_move s actor Takes g sound = record { taken = omega arith; handed = sound.
 
 pub kept_move : (s : State) (actor : ℕ) (move : Move) (facts : Facts) → move_of s actor ≡ Some move → IsKept s facts → IsKept (state_after s move) facts
 kept_move s actor move facts e kept = record {
+  runs = subst CanRun (sym (same_job s move)) kept.runs;
   allowed = subst IsInRange (sym (same_options s move)) kept.allowed;
   sound = sound_move s actor move (guarded s actor move e) kept.sound;
   reached =

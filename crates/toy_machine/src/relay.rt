@@ -1,5 +1,6 @@
 ghost use Rattle.std.specs.Prelude.{◌≡◌, ◌<◌, ◌≤◌, ◌+◌, IsTrue, Option, Some, None};
 ghost use Rattle.std.specs.Option.{option_map};
+ghost use Rattle.nest_mean.specs.Nest.{CanRun};
 ghost use Rattle.progress_board.specs.Options.{IsInRange};
 ghost use Rattle.progress_board.specs.Actors.{actors_of};
 ghost use Rattle.progress_board.specs.Runs.{IsReached};
@@ -23,7 +24,7 @@ pub struct Relay {
 }
 
 impl Model for Relay {
-    ghost use Rattle.nest_mean.specs.contracts.job.Job as held;
+    ghost use Rattle.nest_mean.specs.contracts.jobs.Job as held;
     ghost use Rattle.std.specs.Coded.{codes};
     ghost use Rattle.toy_machine.specs.State.{State};
     ghost use Rattle.toy_machine.specs.Kept.{IsKept};
@@ -45,6 +46,7 @@ impl Relay {
         requires { IsInRange options }
         ensures { result ≡ opening job options }
     {
+        let _program = job.program();
         Relay {
             job,
             options,
@@ -113,6 +115,7 @@ impl Relay {
 
     fn is_over(&self) -> bool
         ensures over { result ≡ is_finished self.now }
+        ensures runs { CanRun self.now.job }
         ensures allowed { IsInRange self.now.options }
         ensures sound { IsSound self.now }
         ensures reached { IsReached step (opening self.now.job self.now.options) self.now }
@@ -172,7 +175,7 @@ impl Machine for Relay {
 
     ghost ending_of = { ending_of };
 
-    ghost words_of = { λ s. s.job.words };
+    ghost words_of = { λ s. s.job.opening };
 
     ghost facts_of = { λ s. no_facts s.options };
 
