@@ -1,7 +1,7 @@
 ghost use Rattle.std.specs.Prelude.{◌≡◌, ◌+◌, ◌<◌, ◌≤◌, true, [], ◌∷◌, ◌++◌, length, vec_len, vec_capacity, OnOk, OnErr};
 ghost use Rattle.progress_board.specs.Actors.{actors_of, work_of};
 ghost use Rattle.progress_board.specs.Runs.{IsLegal, Agrees};
-ghost use Rattle.progress_board.specs.Rotation.{up_to, rotation, GoesOn};
+ghost use Rattle.progress_board.specs.Rotation.{up_to, rounds, rotation, GoesOn, StopsIn};
 
 use nest_syntax::NoMemory;
 use progress_board::{Ask, Given, Machine, Work};
@@ -22,6 +22,9 @@ pub fn lone_run<M: Machine>(
     ensures finished { OnOk result (M.is_finished machine.new ≡ true) }
     ensures rotation { OnOk result (history.new.items ≡ history.old.items ++ rotation M.step M.measure machine.old (actors_of (M.options_of machine.old)) schedule.now) }
     ensures agrees { Agrees M.step machine.old history.old.items machine.new history.new.items }
+
+    // Where memory runs out, it stops within the same looks.
+    ensures stopped { OnErr result (StopsIn M.step machine.old history.old.items (schedule.now ++ rounds (actors_of (M.options_of machine.old)) (M.measure machine.old)) machine.new history.new.items) }
 
     // No more steps than the measure of the machine.
     ensures bound { length history.new.items + M.measure machine.new ≤ length history.old.items + M.measure machine.old }
@@ -52,7 +55,7 @@ fn follow<M: Machine>(
     history: &mut Vec<u8>,
 ) -> Result<(), NoMemory>
     ensures goes { OnOk result (GoesOn M.step machine.old history.old.items schedule.now machine.new history.new.items) }
-    ensures agrees { Agrees M.step machine.old history.old.items machine.new history.new.items }
+    ensures stopped { OnErr result (StopsIn M.step machine.old history.old.items schedule.now machine.new history.new.items) }
     ensures kept { M.options_of machine.new ≡ M.options_of machine.old }
     ensures room { OnErr result (vec_capacity history.old ≤ vec_len history.new) }
     ensures capacity { vec_capacity history.old ≤ vec_capacity history.new }
@@ -85,7 +88,7 @@ fn follow_entry<M: Machine>(
 fn round<M: Machine>(machine: &mut M, actors: u8, history: &mut Vec<u8>) -> Result<(), NoMemory>
     requires { actors ≡ actors_of (M.options_of machine.old) }
     ensures goes { OnOk result (GoesOn M.step machine.old history.old.items (up_to actors) machine.new history.new.items) }
-    ensures agrees { Agrees M.step machine.old history.old.items machine.new history.new.items }
+    ensures stopped { OnErr result (StopsIn M.step machine.old history.old.items (up_to actors) machine.new history.new.items) }
     ensures kept { M.options_of machine.new ≡ M.options_of machine.old }
     ensures room { OnErr result (vec_capacity history.old ≤ vec_len history.new) }
     ensures capacity { vec_capacity history.old ≤ vec_capacity history.new }

@@ -91,3 +91,7 @@ module _ {S : Type 0} (step : S → ℕ → Option S) (P : S → Type 0) (kept :
   round_goes_falls s t n history longer p some goes =
       let there : measure t ≡ measure (after step s (up_to n)) = ap measure goes.state in
       omega (arith, round_falls s n p some)
+
+  -- where some actor has a step, the measure isn't 0
+  pub some_left : (s : S) (n : ℕ) → P s → SomeEnabled step s n → 0 < measure s
+  some_left s n p some = let fell : measure (after step s (up_to n)) + 1 ≤ measure s = round_falls s n p some in omega arith

@@ -1,9 +1,26 @@
 -- Lemmas on looks at one actor after another, and on rounds of them.
-use Rattle.std.proofs.Common.{◌≡◌, ℕ, zero, suc, ◌+◌, ◌-◌, ◌≤◌, Option, None, Some, List, [], ◌∷◌, ◌++◌, refl, ap, ◌∙◌, sym, subst, arith}
+use Rattle.std.proofs.Common.{◌≡◌, ℕ, zero, suc, ◌+◌, ◌-◌, ◌<◌, ◌≤◌, Option, None, Some, List, [], ◌∷◌, ◌++◌, refl, ap, ◌∙◌, sym, subst, arith, ⊎_elim}
 use Rattle.std.proofs.lemmas.List.{append-nil, append_assoc}
+use Rattle.std.proofs.lemmas.Bool.{cases_lt}
 use Rattle.std.specs.Option.{option_map_or}
 use Rattle.progress_board.specs.Runs.{run, Agrees}
-use Rattle.progress_board.specs.Rotation.{taken, after, up_to, rounds, rotation, GoesOn}
+use Rattle.progress_board.specs.Rotation.{taken, after, up_to, rounds, rotation, GoesOn, StopsIn}
+
+-- the first numbers of more numbers
+pub up_to_front : (a n : ℕ) → a ≤ n → (rest : List ℕ) × (up_to n ≡ up_to a ++ rest)
+up_to_front a zero low = let none : a ≡ zero = omega arith in ([], rw none refl)
+up_to_front a (suc n) low = ⊎_elim
+    (λ (below : a < suc n). let (rest, split) = up_to_front a n (omega arith) in (rest ++ n ∷ [], ap (λ (l : List ℕ). l ++ n ∷ []) split ∙ append_assoc (up_to a) rest (n ∷ [])))
+    (λ (last : suc n ≤ a). let same : a ≡ suc n = omega arith in ([], rw same (sym (append-nil (up_to (suc n))))))
+    (cases_lt a (suc n))
+
+-- the first rounds of more rounds
+rounds_front : (n k m : ℕ) → k ≤ m → (rest : List ℕ) × (rounds n m ≡ rounds n k ++ rest)
+rounds_front n k zero low = let none : k ≡ zero = omega arith in ([], rw none refl)
+rounds_front n k (suc m) low = ⊎_elim
+    (λ (below : k < suc m). let (rest, split) = rounds_front n k m (omega arith) in (rest ++ up_to n, ap (λ (l : List ℕ). l ++ up_to n) split ∙ append_assoc (rounds n k) rest (up_to n)))
+    (λ (last : suc m ≤ k). let same : k ≡ suc m = omega arith in ([], rw same (sym (append-nil (rounds n (suc m))))))
+    (cases_lt k (suc m))
 
 module _ {S : Type 0} (step : S → ℕ → Option S) where
   -- the steps that are made are a legal history, to the state that they leave
@@ -103,3 +120,36 @@ module _ {S : Type 0} (step : S → ℕ → Option S) where
       sym (ap (λ (j : ℕ). taken step (after step s schedule) (rounds n j)) enough ∙ taken_rounds (after step s schedule) n k (measure s - k) stopped_there) in
       goes.appended
       ∙ ap (λ (l : List ℕ). history ++ l) (taken-append s schedule (rounds n k) ∙ ap (λ (l : List ℕ). taken step s schedule ++ l) same ∙ sym (taken-append s schedule (rounds n (measure s))))
+
+  -- a driver that stopped agrees
+  pub stops_agrees : (s t : S) (history looks longer : List ℕ) → StopsIn step s history looks t longer → Agrees step s history t longer
+  stops_agrees s t history looks longer stops = agrees s t history stops.passed longer stops.goes
+
+  -- one that stopped within some looks stopped within more
+  pub stops_more : (s t : S) (history looks more longer : List ℕ) → StopsIn step s history looks t longer → StopsIn step s history (looks ++ more) t longer
+  stops_more s t history looks more longer stops = record {
+    passed = stops.passed;
+    left = stops.left ++ more;
+    split = ap (λ (l : List ℕ). l ++ more) stops.split ∙ append_assoc stops.passed stops.left more;
+    goes = stops.goes;
+  }
+
+  -- one that stopped behind other looks
+  pub stops_behind : (s t u : S) (history longer longest first looks : List ℕ) → GoesOn step s history first t longer → StopsIn step t longer looks u longest
+    → StopsIn step s history (first ++ looks) u longest
+  stops_behind s t u history longer longest first looks goes stops = record {
+    passed = first ++ stops.passed;
+    left = stops.left;
+    split = ap (λ (l : List ℕ). first ++ l) stops.split ∙ sym (append_assoc first stops.passed stops.left);
+    goes = goes_more s t u history longer longest first stops.passed goes stops.goes;
+  }
+
+  -- one that stopped within a round, behind a schedule and rounds
+  pub stops_in_round : (s t u : S) (n k m : ℕ) (history longer longest schedule : List ℕ) → GoesOn step s history (schedule ++ rounds n k) t longer → StopsIn step t longer (up_to n) u longest
+    → k < m → StopsIn step s history (schedule ++ rounds n m) u longest
+  stops_in_round s t u n k m history longer longest schedule goes stops below =
+      let (more, split) = rounds_front n (suc k) m (omega arith) in
+      let there = stops_more s u history ((schedule ++ rounds n k) ++ up_to n) more longest (stops_behind s t u history longer longest (schedule ++ rounds n k) (up_to n) goes stops) in
+      let same : ((schedule ++ rounds n k) ++ up_to n) ++ more ≡ schedule ++ rounds n m =
+          ap (λ (l : List ℕ). l ++ more) (append_assoc schedule (rounds n k) (up_to n)) ∙ append_assoc schedule (rounds n (suc k)) more ∙ ap (λ (l : List ℕ). schedule ++ l) (sym split) in
+      subst (λ (l : List ℕ). StopsIn step s history l u longest) same there

@@ -32,3 +32,10 @@ rotation step measure s n schedule = taken step s (schedule ++ rounds n (measure
 pub record GoesOn {S : Type 0} (step : S → ℕ → Option S) (s : S) (history looks : List ℕ) (t : S) (longer : List ℕ) : Type 0 where
   pub appended : longer ≡ history ++ taken step s looks
   pub state : t ≡ after step s looks
+
+-- it stops somewhere within so many looks: the first of them go on from one state and history to another
+pub record StopsIn {S : Type 0} (step : S → ℕ → Option S) (s : S) (history looks : List ℕ) (t : S) (longer : List ℕ) : Type 0 where
+  pub passed : List ℕ
+  pub left : List ℕ
+  pub split : looks ≡ passed ++ left
+  pub goes : GoesOn step s history passed t longer

@@ -5,3 +5,6 @@
 mod relay;
 
 pub use relay::Relay;
+
+#[cfg(test)]
+mod tests;

@@ -1,12 +1,15 @@
+use Rattle.std.proofs.lemmas.Result.{err_from_is_err_and}
 use Rattle.std.proofs.Common.{◌≡◌, ℕ, ◌+◌, suc, ◌∙◌, arith, subst}
 use Rattle.progress_board.specs.Rotation.{up_to, GoesOn}
-use Rattle.progress_board.proofs.Rotation.{agrees, goes_more}
+use Rattle.progress_board.proofs.Rotation.{up_to_front, goes_more}
 use Rattle.lone_crew.proofs.lone.round.Goals as goal
 
-pub returns-in_err-look-clause-agrees : goal.returns-in_err-look-clause-agrees
-returns-in_err-look-clause-agrees g c =
+pub returns-in_err-look-clause-stopped : goal.returns-in_err-look-clause-stopped
+returns-in_err-look-clause-stopped g c =
     let same = c.in_err-look.ensures.same in
-    rw (same.0, same.1) (agrees g.M.Machine.step _ _ _ _ _ c.loop-actor.invariant.goes)
+    let (rest, split) = up_to_front c.loop-actor.actor c.args.actors (omega arith) in
+    let p = err_from_is_err_and c.from_residual.result c.from_residual.ensures.1 in
+    rw (p.1, same.0, same.1) (record { passed = up_to c.loop-actor.actor; left = rest; split = split; goes = c.loop-actor.invariant.goes })
 
 pub loop-actor-preserved : goal.loop-actor-preserved
 loop-actor-preserved g c = record {
@@ -18,5 +21,3 @@ loop-actor-preserved g c = record {
   capacity = omega arith;
 }
 
-pub returns-clause-agrees : goal.returns-clause-agrees
-returns-clause-agrees g c = agrees g.M.Machine.step _ _ _ _ _ c.loop-actor.invariant.goes
