@@ -1,0 +1,7 @@
+pub mod Waits
+pub mod Facts
+pub mod Machine
+pub mod Rows
+pub mod Runs
+pub mod Theorems
+pub mod Measure

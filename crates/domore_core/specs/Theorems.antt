@@ -1,0 +1,55 @@
+-- What is claimed of every history, whatever the order of the actors in it.
+use Rattle.std.specs.Prelude.{◌≡◌, ℕ, ◌<◌, ◌≤◌, ℤ, true, false, Some, IsSome, List}
+use Rattle.nest_syntax.specs.Outcome.{Done}
+use Rattle.settle_law.specs.Cuts.{Cut, HoldsFixed}
+use Rattle.settle_law.specs.Traces.{Access, Replays, InOrder, settle, Apart}
+use Rattle.settle_law.specs.Tasks.{Realises}
+use Rattle.settle_law.specs.Courses.{Nest, Follows, family_of, outcome}
+use Rattle.settle_law.specs.Reading.{NestKeepsFixed}
+use Rattle.domore_core.specs.Facts.{facts_of}
+use Rattle.domore_core.specs.Machine.{Setup, State, opening, step, waits}
+use Rattle.domore_core.specs.Runs.{run, trace_from, is_finished, ending_of}
+
+-- A setup is for a nest where there is a worker and room in its queue; the first piece of each body realises the body's
+-- cut turn; the cursor follows the course of the nest; `const` words have their values as the nest opens, and no
+-- iteration writes them; and iterations whose claims don't clash are apart.
+pub record IsSetupFor {B C P : Type 0} (m : Setup B C P) (nest : Nest) (tree : B → Cut) (start : C) : Type 0 where
+  pub some_worker : 0 < m.width
+  pub some_room : 0 < m.room
+  pub begins : (b : B) → Realises m.system (tree b) (m.entry b)
+  pub follows : Follows nest tree m.event start nest.course
+  pub opens_fixed : HoldsFixed m.system.fixed nest.opening
+  pub keeps_fixed : NestKeepsFixed m.system.fixed nest
+  pub apart : (j k : ℕ) → j < k → m.clashes j k ≡ false → Apart (family_of m.system.fixed nest j) (family_of m.system.fixed nest k)
+
+-- a legal history leads from the opening to a state
+abbrev pub Leads : {B C P : Type 0} → Setup B C P → Nest → C → List ℕ → State B C P → Type 0
+Leads m nest start history s = run (step m) (opening m start nest.opening) history ≡ Some s
+
+-- a trace replays from the opening words, is in order, and settles to these words
+pub record KeepsOrder (from : List ℤ) (trace : List Access) (words : List ℤ) : Type 0 where
+  pub replays : Replays from trace
+  pub in_order : InOrder trace
+  pub settles : settle from trace ≡ words
+
+-- Each legal history leaves a trace that keeps order, to the words of the state.
+abbrev pub HistoriesKeepOrder : Type 0 → Type 0 → Type 0 → Type 0
+HistoriesKeepOrder B C P = (m : Setup B C P) (nest : Nest) (tree : B → Cut) (start : C) → IsSetupFor m nest tree start → (history : List ℕ) (s : State B C P) → Leads m nest start history s → KeepsOrder nest.opening (trace_from m (opening m start nest.opening) history) s.words
+
+-- Each complete history ends as the nest does in textual order: with its final words, or at its first trap.
+abbrev pub HistoriesEndAsNest : Type 0 → Type 0 → Type 0 → Type 0
+HistoriesEndAsNest B C P = (m : Setup B C P) (nest : Nest) (tree : B → Cut) (start : C) → IsSetupFor m nest tree start → (history : List ℕ) (s : State B C P) → Leads m nest start history s → is_finished m s ≡ true → ending_of s ≡ outcome nest
+
+-- Where the nest doesn't trap, each complete history counts the same.
+abbrev pub FactsAreOfNest : Type 0 → Type 0 → Type 0 → Type 0
+FactsAreOfNest B C P = (m : Setup B C P) (nest : Nest) (tree : B → Cut) (start : C) → IsSetupFor m nest tree start → (history : List ℕ) (s : State B C P) → Leads m nest start history s → is_finished m s ≡ true → (words : List ℤ) → outcome nest ≡ Done words → s.facts ≡ facts_of (waits m) nest
+
+-- some worker or the scheduler has a step
+pub record CanGoOn {B C P : Type 0} (m : Setup B C P) (s : State B C P) : Type 0 where
+  pub actor : ℕ
+  pub present : actor ≤ m.width
+  pub enabled : IsSome (step m s actor)
+
+-- In each state that a legal history leaves and that isn't finished, some actor has a step.
+abbrev pub UnfinishedGoOn : Type 0 → Type 0 → Type 0 → Type 0
+UnfinishedGoOn B C P = (m : Setup B C P) (nest : Nest) (tree : B → Cut) (start : C) → IsSetupFor m nest tree start → (history : List ℕ) (s : State B C P) → Leads m nest start history s → is_finished m s ≡ false → CanGoOn m s
