@@ -6,3 +6,7 @@ pub mod Law
 pub mod Push
 pub mod Claims
 pub mod Tasks
+pub mod Turns
+pub mod Reading
+pub mod Nests
+pub mod Cursors

@@ -1,10 +1,10 @@
 -- One more access at the end of a trace.
-use Rattle.std.proofs.Common.{◌≡◌, ℕ, ◌≤◌, ℤ, Bool, true, false, ◌==◌, List, [], ◌∷◌, ◌++◌, refl, sym, ap, ◌∙◌, subst, append-nil}
+use Rattle.std.proofs.Common.{◌≡◌, ℕ, ◌≤◌, ℤ, Bool, true, false, ◌==◌, List, [], ◌∷◌, ◌++◌, refl, sym, ap, ◌∙◌, subst, append-nil, inl, inr}
 use Rattle.nest_syntax.specs.declared.names.Line.{Line}
 use Rattle.nest_syntax.specs.declared.operators.Cause.{Cause}
 use Rattle.settle_law.specs.Trees.{Tree, Finished, Trapped, Load, Store}
-use Rattle.settle_law.specs.Traces.{Access, Read, Write, iteration, Each, apply, settle, Sees, Replays, Conflict, InOrder, keep, part, Makes}
-use Rattle.settle_law.proofs.Members.{each_push, part_own, part_other}
+use Rattle.settle_law.specs.Traces.{Access, Read, Write, iteration, Each, apply, settle, Sees, Replays, Conflict, Pairs, InOrder, keep, part, Makes}
+use Rattle.settle_law.proofs.Members.{Has, each_at, each_of, each_push, part_own, part_other}
 use Rattle.settle_law.proofs.Makings.{makes_append, makes_same}
 
 pub settle_append : (words : List ℤ) (trace others : List Access) → settle words (trace ++ others) ≡ settle (settle words trace) others
@@ -18,10 +18,17 @@ pub replays_push : (words : List ℤ) (trace : List Access) (b : Access) → Rep
 replays_push words [] b replays sees = (sees, tt)
 replays_push words (a ∷ trace) b replays sees = (replays.0, replays_push (apply words a) trace b replays.1 sees)
 
+pub pairs_push : (R : Access → Access → Type 0) (trace : List Access) (b : Access) → Pairs R trace → Each (λ a. R a b) trace → Pairs R (trace ++ b ∷ [])
+pairs_push R [] b pairs leads = (tt, tt)
+pairs_push R (a ∷ trace) b pairs leads = (each_push (R a) trace b pairs.0 leads.0, pairs_push R trace b pairs.1 leads.1)
+
+pub pairs_map : (R S : Access → Access → Type 0) (trace : List Access) → ((a b : Access) → Has a trace → Has b trace → R a b → S a b) → Pairs R trace → Pairs S trace
+pairs_map R S [] all pairs = tt
+pairs_map R S (a ∷ trace) all pairs = (each_of (S a) trace (λ b has. all a b (inl refl) (inr has) (each_at (R a) trace b pairs.0 has)), pairs_map R S trace (λ x y has_x has_y. all x y (inr has_x) (inr has_y)) pairs.1)
+
 -- the new access may not conflict with one of a higher iteration before it
 pub in_order_push : (trace : List Access) (b : Access) → InOrder trace → Each (λ a. Conflict a b → iteration a ≤ iteration b) trace → InOrder (trace ++ b ∷ [])
-in_order_push [] b order leads = (tt, tt)
-in_order_push (a ∷ trace) b order leads = (each_push (λ x. Conflict a x → iteration a ≤ iteration x) trace b order.0 leads.0, in_order_push trace b order.1 leads.1)
+in_order_push trace b order leads = pairs_push (λ x y. Conflict x y → iteration x ≤ iteration y) trace b order leads
 
 keep_append : (t : Bool) (a : Access) (trace others : List Access) → keep t a (trace ++ others) ≡ keep t a trace ++ others
 keep_append true a trace others = refl

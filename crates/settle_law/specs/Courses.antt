@@ -1,16 +1,16 @@
 -- The scheduler's side of a run, for any kind of cursor: events as a cursor gives them, a cursor that follows the course
 -- that is left, and what of a course lies behind a cursor. Bodies and cursors may be any data.
-use Rattle.std.specs.Prelude.{◌≡◌, ℕ, zero, suc, ℤ, Option, Some, None, List, ◌++◌, length, slice_get}
+use Rattle.std.specs.Prelude.{◌≡◌, ℕ, zero, suc, ◌≤◌, ℤ, true, false, Option, Some, None, List, [], ◌∷◌, ◌++◌, length, slice_get}
 use Rattle.std.specs.Option.{option_and_then, option_map_or}
 use Rattle.nest_syntax.specs.declared.names.Line.{Line}
 use Rattle.nest_syntax.specs.declared.operators.Cause.{Cause}
 use Rattle.nest_syntax.specs.declared.tree.Program.{Program}
 use Rattle.nest_syntax.specs.Arrays.{arrays_of, sizes_of}
 use Rattle.nest_syntax.specs.Turn.{Turn}
-use Rattle.nest_syntax.specs.Reads.{on_words}
+use Rattle.nest_syntax.specs.Reads.{on_words, Stopped}
 use Rattle.nest_syntax.specs.Course.{Purpose, Course, course_of, bodies_of}
 use Rattle.nest_syntax.specs.Course as course
-use Rattle.nest_syntax.specs.Outcome.{Ending, Event as Passed, completed, turn_in, ending_from, events_from, iterations_among}
+use Rattle.nest_syntax.specs.Outcome.{Ending, Done, TrappedAt, place_of_trap, Event as Passed, Computes, Drains, Iterates, Closes, Ends, completed, turn_in, ending_from, events_from, iterations_among}
 use Rattle.settle_law.specs.Trees.{Tree, Finished}
 use Rattle.settle_law.specs.Cuts.{Cut, cut, plain}
 
@@ -101,3 +101,35 @@ pub record Behind {B C : Type 0} (nest : Nest) (tree : B → Cut) (event : C →
   pub counts : length (iterations_among passed) ≡ next
   pub all_events : passed ++ events_left nest left (reached nest next) ≡ events nest
   pub ends : (words : List ℤ) → reached nest next ≡ Some words → ending_from nest.sizes nest.turn left next words ≡ outcome nest
+
+-- What the event at which a cursor stands says of the nest. Behind an event the next cursor has passed it too, and an
+-- iteration is the nest's next one. Where textual order gets there, a trap is the outcome, and so are the words at the
+-- end, behind which there is no iteration.
+module _ {B C : Type 0} (nest : Nest) (tree : B → Cut) (event : C → Event B C) (passed : List Passed) (next : ℕ) where
+  -- the scheduler traps before the next iteration, if textual order gets there
+  abbrev pub TrapsThere : Trap → Type 0
+  TrapsThere trap = (words : List ℤ) → reached nest next ≡ Some words → outcome nest ≡ TrappedAt (place_of_trap trap.cause trap.line next true)
+
+  -- behind an event of the scheduler that is no iteration: its trap, or the next cursor
+  abbrev pub Onward : Passed → Option Trap → C → Type 0
+  Onward this None after = Behind nest tree event (passed ++ this ∷ []) next after
+  Onward this (Some trap) after = TrapsThere trap
+
+  abbrev pub AtEvent : Event B C → Type 0
+  AtEvent End = (events nest ≡ passed ++ Ends ∷ []) × ((k : ℕ) → next ≤ k → iteration_at nest k ≡ None) × ((words : List ℤ) → reached nest next ≡ Some words → outcome nest ≡ Done words)
+  AtEvent (Scalar purpose trap after) = Onward (Computes purpose) trap after
+  AtEvent (Drain purpose trap after) = (words : List ℤ) → reached nest next ≡ Some words → Onward (Drains purpose) (trap words) (after words)
+  AtEvent (Iterate b after) = (i : ℕ × List ℤ) × (iteration_at nest next ≡ Some i) × (tree b ≡ cut_at nest i) × Behind nest tree event (passed ++ Iterates i.0 i.1 ∷ []) (suc next) after
+  AtEvent (Close after) = Onward Closes None after
+
+-- Each event of a cursor with this behind it says so. And a cursor that follows the course of the nest has all of it
+-- before it.
+abbrev pub EventsTell : Type 0 → Type 0 → Type 0
+EventsTell B C = (nest : Nest) (tree : B → Cut) (event : C → Event B C) (passed : List Passed) (next : ℕ) (cursor : C) → Behind nest tree event passed next cursor → AtEvent nest tree event passed next (event cursor)
+
+abbrev pub CursorsBegin : Type 0 → Type 0 → Type 0
+CursorsBegin B C = (nest : Nest) (tree : B → Cut) (event : C → Event B C) (cursor : C) → Follows nest tree event cursor nest.course → Behind nest tree event [] 0 cursor
+
+-- An iteration that textual order reaches and that traps there is the outcome.
+abbrev pub TrappedIterationIsOutcome : Type 0
+TrappedIterationIsOutcome = (nest : Nest) (n : ℕ) (words : List ℤ) (i : ℕ × List ℤ) (cause : Cause) (line : Line) (last : List ℤ) → reached nest n ≡ Some words → iteration_at nest n ≡ Some i → on_words nest.sizes (nest.turn i.0 i.1) words ≡ Stopped cause line last → outcome nest ≡ TrappedAt (place_of_trap cause line n false)

@@ -46,10 +46,14 @@ Conflict (Read j w value) (Write k u other) = w ≡ u
 Conflict (Write j w value) (Read k u other) = w ≡ u
 Conflict (Write j w value) (Write k u other) = w ≡ u
 
+-- what holds of each access and each later one
+abbrev pub Pairs : (Access → Access → Type 0) → List Access → Type 0
+Pairs R [] = Unit {0}
+Pairs R (a ∷ trace) = Each (R a) trace × Pairs R trace
+
 -- A trace is in order where, of any two conflicting accesses, the one of the lower iteration stands first.
 abbrev pub InOrder : List Access → Type 0
-InOrder [] = Unit {0}
-InOrder (a ∷ trace) = Each (λ b. Conflict a b → iteration a ≤ iteration b) trace × InOrder trace
+InOrder trace = Pairs (λ a b. Conflict a b → iteration a ≤ iteration b) trace
 
 abbrev pub keep : Bool → Access → List Access → List Access
 keep true a trace = a ∷ trace

@@ -7,6 +7,7 @@
 ghost use Rattle.settle_law.specs.Law.{PartsAreTextual, FinishedPartsReach, FinishedPartsSettle, TrappedPartIsTextual};
 ghost use Rattle.settle_law.specs.Claims.{ClaimsPartIterations};
 ghost use Rattle.settle_law.specs.Tasks.{StopsTell, PiecesBegin};
+ghost use Rattle.settle_law.specs.Courses.{EventsTell, CursorsBegin, TrappedIterationIsOutcome};
 ghost use Rattle.settle_law.specs.Reading.{TurnIsTree, AccessesAreTree, ReadsAreMade, MadeIsRead, ReadsApartAreApart, ReachedIsAfter, AfterIsReached, ProgramIsNest};
 
 /// In a trace that keeps the law's premises each part agrees with textual order, as far as textual order gets: it is
@@ -87,3 +88,21 @@ pub fn after_is_reached()
 pub fn program_is_nest()
     ensures { ProgramIsNest }
 {}
+
+/// The event at which a cursor stands says what of the nest lies behind it.
+pub fn events_tell<B, C>()
+    ensures { EventsTell B C }
+{
+}
+
+/// A cursor that follows the course of a nest has all of it before it.
+pub fn cursors_begin<B, C>()
+    ensures { CursorsBegin B C }
+{
+}
+
+/// An iteration that traps where textual order reaches it is the outcome.
+pub fn trapped_iteration_is_outcome()
+    ensures { TrappedIterationIsOutcome }
+{
+}
