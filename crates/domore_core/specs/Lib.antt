@@ -5,3 +5,4 @@ pub mod Rows
 pub mod Runs
 pub mod Theorems
 pub mod Measure
+pub mod Invariant

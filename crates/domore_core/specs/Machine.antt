@@ -65,6 +65,16 @@ seat_at seats u = slice_index_or seats u gone_seat
 abbrev pub done_at : {B P : Type 0} → List (Seat B P) → ℕ → ℕ
 done_at seats u = (seat_at seats u).done
 
+-- whether a worker is ended
+abbrev pub is_gone : {P : Type 0} → Hand P → Bool
+is_gone Idle = false
+is_gone (Holding k left piece) = false
+is_gone Gone = true
+
+-- one ticket more in the queue of a seat
+abbrev pub seat_with : {B P : Type 0} → Seat B P → Ticket B → Seat B P
+seat_with seat ticket = record seat { queue = seat.queue ++ ticket ∷ [] }
+
 -- a number is above the trap where a trap is kept and its number is less
 abbrev pub is_above : Option Place → ℕ → Bool
 is_above trap k = option_map_or (λ (t : Place). nat_lt t.number k) trap false
@@ -161,9 +171,6 @@ module _ {B C P : Type 0} (m : Setup B C P) where
   abbrev pub ticket_of : State B C P → B → Ticket B
   ticket_of s b = record { number = s.next; body = b; waits = waits s.next }
 
-  abbrev pub seat_with : Seat B P → Ticket B → Seat B P
-  seat_with seat ticket = record seat { queue = seat.queue ++ ticket ∷ [] }
-
   abbrev pub seat_after : List ℤ → Seat B P → Move B C P → Seat B P
   seat_after words seat (DoTake ticket queue) = record seat { hand = Holding ticket.number ticket.waits (m.entry ticket.body); queue = queue }
   seat_after words seat (DoPass k w left piece) = record seat { hand = Holding k left piece }
@@ -221,12 +228,6 @@ module _ {B C P : Type 0} (m : Setup B C P) where
   accesses_of words (DoRead k w next) = option_map_or (λ told. []) (m.system.fixed w) (Read k w (word_at words w) ∷ [])
   accesses_of words (DoWrite k w value next) = Write k w value ∷ []
   accesses_of words _ = []
-
-  -- whether a worker is ended
-  abbrev pub is_gone : Hand P → Bool
-  is_gone Gone = true
-  is_gone Idle = false
-  is_gone (Holding k left piece) = false
 
   -- Whether the part of an actor is ended: of a worker that is gone, of the scheduler that has halted, and of any further
   -- actor always.

@@ -23,7 +23,7 @@ module _ {B C P : Type 0} (m : Setup B C P) where
 
   -- the machine is finished where the scheduler and all workers are ended
   abbrev pub is_finished : State B C P → Bool
-  is_finished s = s.halted && list_all (λ (seat : Seat B P). is_gone m seat.hand) s.seats
+  is_finished s = s.halted && list_all (λ (seat : Seat B P). is_gone seat.hand) s.seats
 
   -- a history is complete where it is legal and its last state is finished
   pub record IsComplete (from : State B C P) (history : List ℕ) : Type 0 where
