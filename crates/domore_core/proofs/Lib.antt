@@ -1,3 +1,5 @@
 pub mod Guards
 pub mod Seats
 pub mod Tickets
+pub mod Need
+pub mod WaitsLeft

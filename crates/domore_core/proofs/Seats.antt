@@ -32,3 +32,7 @@ each_map P Q (x ∷ xs) f each = (f x each.0, each_map P Q xs f each.1)
 pub each_push : {A : Type 0} (P : A → Type 0) (xs : List A) (y : A) → Each P xs → P y → Each P (xs ++ y ∷ [])
 each_push P [] y each last = (last, tt)
 each_push P (x ∷ xs) y each last = (each.0, each_push P xs y each.1 last)
+
+pub each_append : {A : Type 0} (P : A → Type 0) (xs ys : List A) → Each P xs → Each P ys → Each P (xs ++ ys)
+each_append P [] ys each others = others
+each_append P (x ∷ xs) ys each others = (each.0, each_append P xs ys each.1 others)

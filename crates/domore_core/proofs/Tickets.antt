@@ -169,7 +169,7 @@ module _ {B C P : Type 0} (m : Setup B C P) (s : State B C P) (i : AllTickets m 
     trap = omega arith;
   }
 
-  held : (u k : ℕ) (left : List Wait) (piece : P) → u < m.width → (seat u).hand ≡ Holding k left piece → Tickets m.width s.next s.trap u (seat u).done (k ∷ queued_numbers (seat u).queue)
+  pub held : (u k : ℕ) (left : List Wait) (piece : P) → u < m.width → (seat u).hand ≡ Holding k left piece → Tickets m.width s.next s.trap u (seat u).done (k ∷ queued_numbers (seat u).queue)
   held u k left piece own h = tickets_at u (Holding k left piece) (seat u).queue own h refl
 
   dispatch_row : (b : B) (rest : C) → 0 < m.width → AllTickets m (state_after m s m.width (DoDispatch b rest))
