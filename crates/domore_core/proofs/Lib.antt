@@ -3,3 +3,4 @@ pub mod Seats
 pub mod Tickets
 pub mod Need
 pub mod WaitsLeft
+pub mod Parts
