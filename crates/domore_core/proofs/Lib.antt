@@ -4,3 +4,4 @@ pub mod Tickets
 pub mod Need
 pub mod WaitsLeft
 pub mod Parts
+pub mod Kept

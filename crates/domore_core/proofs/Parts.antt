@@ -47,7 +47,7 @@ module _ {B C P : Type 0} (m : Setup B C P) (nest : Nest) (tree : B → Cut) (s 
   hand_at : (u : ℕ) (hand : Hand P) → u < m.width → (seat u).hand ≡ hand → HandParts m nest trace hand
   hand_at u hand own h = subst (HandParts m nest trace) h (i.seats u own).hand
 
-  left_at : (u k : ℕ) (left : List Wait) (piece : P) → u < m.width → (seat u).hand ≡ Holding k left piece → Left m.system (family k) (part k trace) piece
+  pub left_at : (u k : ℕ) (left : List Wait) (piece : P) → u < m.width → (seat u).hand ≡ Holding k left piece → Left m.system (family k) (part k trace) piece
   left_at u k left piece own h = hand_at u (Holding k left piece) own h
 
   queue_at : (u : ℕ) (queue : List (Ticket B)) → u < m.width → (seat u).queue ≡ queue → Each (IsUnbegun trace) queue
