@@ -5,3 +5,5 @@ pub mod Need
 pub mod WaitsLeft
 pub mod Parts
 pub mod Kept
+pub mod Textual
+pub mod Course
