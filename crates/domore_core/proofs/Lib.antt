@@ -7,3 +7,5 @@ pub mod Parts
 pub mod Kept
 pub mod Textual
 pub mod Course
+pub mod Finished
+pub mod Runs
