@@ -1,2 +1,27 @@
-//! The engine that keeps textual order without a barrier: a scheduler hands iterations out with what they wait for.
+//! The engine that keeps textual order without a barrier: a scheduler hands iterations out with what they wait for, and
+//! workers carry them out, also past the end of an invocation. Each function here is a law: its contract says what holds
+//! of every history, whatever the order of the actors in it, and it does nothing.
+//!
+//! `specs/` has the machine as a definition, for any bodies, cursors and pieces of work, and what is claimed of it.
 #![tactic(auto)]
+
+ghost use Rattle.domore_core.specs.Theorems.{HistoriesKeepOrder, HistoriesEndAsNest, FactsAreOfNest};
+
+/// Each legal history leaves a trace that replays from the opening words and is in order, and that settles to the words
+/// of the state.
+pub fn histories_keep_order<B, C, P>()
+    ensures { HistoriesKeepOrder B C P }
+{
+}
+
+/// Each complete history ends as the nest does in textual order: with its final words, or at its first trap.
+pub fn histories_end_as_nest<B, C, P>()
+    ensures { HistoriesEndAsNest B C P }
+{
+}
+
+/// Where the nest doesn't trap, the facts of each complete history are those of the nest.
+pub fn facts_are_of_nest<B, C, P>()
+    ensures { FactsAreOfNest B C P }
+{
+}
