@@ -9,3 +9,4 @@ pub mod Textual
 pub mod Course
 pub mod Finished
 pub mod Runs
+pub mod Progress
