@@ -10,3 +10,4 @@ pub mod Course
 pub mod Finished
 pub mod Runs
 pub mod Progress
+pub mod Ahead
