@@ -11,3 +11,4 @@ pub mod Finished
 pub mod Runs
 pub mod Progress
 pub mod Ahead
+pub mod Falls
