@@ -89,7 +89,7 @@ pub keeps_order : (B C P : Type 0) → HistoriesKeepOrder B C P
 keeps_order B C P m nest tree start setup history s e = let i = invariant_holds m nest tree start setup history s e in record { replays = i.words.replays; in_order = i.words.in_order; settles = i.words.settles }
 
 pub ends_as : (B C P : Type 0) → HistoriesEndAsNest B C P
-ends_as B C P m nest tree start setup history s e finished = ends_as_nest m nest tree start setup s (trace_from m (opening m start nest.opening) history) (invariant_holds m nest tree start setup history s e) finished
+ends_as B C P m nest tree start setup history complete = ends_as_nest m nest tree start setup complete.last (trace_from m (opening m start nest.opening) history) (invariant_holds m nest tree start setup history complete.last complete.ran) complete.finished
 
 pub counts_as : (B C P : Type 0) → FactsAreOfNest B C P
-counts_as B C P m nest tree start setup history s e finished words done = counts_as_nest m nest tree start setup s (trace_from m (opening m start nest.opening) history) (invariant_holds m nest tree start setup history s e) finished words done
+counts_as B C P m nest tree start setup history complete words done = counts_as_nest m nest tree start setup complete.last (trace_from m (opening m start nest.opening) history) (invariant_holds m nest tree start setup history complete.last complete.ran) complete.finished words done

@@ -8,7 +8,7 @@ use Rattle.settle_law.specs.Courses.{Nest, Follows, family_of, outcome}
 use Rattle.settle_law.specs.Reading.{NestKeepsFixed}
 use Rattle.domore_core.specs.Facts.{facts_of}
 use Rattle.domore_core.specs.Machine.{Setup, State, opening, step, waits}
-use Rattle.domore_core.specs.Runs.{run, trace_from, is_finished, ending_of}
+use Rattle.domore_core.specs.Runs.{run, IsComplete, trace_from, is_finished, ending_of}
 
 -- A setup is for a nest where there is a worker and room in its queue; the first piece of each body realises the body's
 -- cut turn; the cursor follows the course of the nest; `const` words have their values as the nest opens, and no
@@ -26,6 +26,10 @@ pub record IsSetupFor {B C P : Type 0} (m : Setup B C P) (nest : Nest) (tree : B
 abbrev pub Leads : {B C P : Type 0} → Setup B C P → Nest → C → List ℕ → State B C P → Type 0
 Leads m nest start history s = run (step m) (opening m start nest.opening) history ≡ Some s
 
+-- a history from the opening is complete
+abbrev pub Completes : {B C P : Type 0} → Setup B C P → Nest → C → List ℕ → Type 0
+Completes m nest start history = IsComplete (step m) (is_finished m) (opening m start nest.opening) history
+
 -- a trace replays from the opening words, is in order, and settles to these words
 pub record KeepsOrder (from : List ℤ) (trace : List Access) (words : List ℤ) : Type 0 where
   pub replays : Replays from trace
@@ -38,11 +42,11 @@ HistoriesKeepOrder B C P = (m : Setup B C P) (nest : Nest) (tree : B → Cut) (s
 
 -- Each complete history ends as the nest does in textual order: with its final words, or at its first trap.
 abbrev pub HistoriesEndAsNest : Type 0 → Type 0 → Type 0 → Type 0
-HistoriesEndAsNest B C P = (m : Setup B C P) (nest : Nest) (tree : B → Cut) (start : C) → IsSetupFor m nest tree start → (history : List ℕ) (s : State B C P) → Leads m nest start history s → is_finished m s ≡ true → ending_of s ≡ outcome nest
+HistoriesEndAsNest B C P = (m : Setup B C P) (nest : Nest) (tree : B → Cut) (start : C) → IsSetupFor m nest tree start → (history : List ℕ) (complete : Completes m nest start history) → ending_of complete.last ≡ outcome nest
 
 -- Where the nest doesn't trap, each complete history counts the same.
 abbrev pub FactsAreOfNest : Type 0 → Type 0 → Type 0 → Type 0
-FactsAreOfNest B C P = (m : Setup B C P) (nest : Nest) (tree : B → Cut) (start : C) → IsSetupFor m nest tree start → (history : List ℕ) (s : State B C P) → Leads m nest start history s → is_finished m s ≡ true → (words : List ℤ) → outcome nest ≡ Done words → s.facts ≡ facts_of (waits m) nest
+FactsAreOfNest B C P = (m : Setup B C P) (nest : Nest) (tree : B → Cut) (start : C) → IsSetupFor m nest tree start → (history : List ℕ) (complete : Completes m nest start history) (words : List ℤ) → outcome nest ≡ Done words → complete.last.facts ≡ facts_of (waits m) nest
 
 -- some worker or the scheduler has a step
 pub record CanGoOn {B C P : Type 0} (m : Setup B C P) (s : State B C P) : Type 0 where

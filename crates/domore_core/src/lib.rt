@@ -5,7 +5,8 @@
 //! `specs/` has the machine as a definition, for any bodies, cursors and pieces of work, and what is claimed of it.
 #![tactic(auto)]
 
-ghost use Rattle.domore_core.specs.Theorems.{HistoriesKeepOrder, HistoriesEndAsNest, FactsAreOfNest};
+ghost use Rattle.domore_core.specs.Theorems.{HistoriesKeepOrder, HistoriesEndAsNest, FactsAreOfNest, UnfinishedGoOn};
+ghost use Rattle.domore_core.specs.Measure.{StepsFall, HistoriesAreBounded, OpeningIsWithinBound};
 
 /// Each legal history leaves a trace that replays from the opening words and is in order, and that settles to the words
 /// of the state.
@@ -23,5 +24,29 @@ pub fn histories_end_as_nest<B, C, P>()
 /// Where the nest doesn't trap, the facts of each complete history are those of the nest.
 pub fn facts_are_of_nest<B, C, P>()
     ensures { FactsAreOfNest B C P }
+{
+}
+
+/// In each state that a legal history leaves and that isn't finished, some worker or the scheduler has a step.
+pub fn unfinished_go_on<B, C, P>()
+    ensures { UnfinishedGoOn B C P }
+{
+}
+
+/// The measure of a state falls at each step of a legal history.
+pub fn steps_fall<B, C, P>()
+    ensures { StepsFall B C P }
+{
+}
+
+/// No legal history is longer than the measure of the opening.
+pub fn histories_are_bounded<B, C, P>()
+    ensures { HistoriesAreBounded B C P }
+{
+}
+
+/// Where the costs bound the fuel of all iterations, the measure of the opening is within the bound.
+pub fn opening_is_within_bound<B, C, P>()
+    ensures { OpeningIsWithinBound B C P }
 {
 }
