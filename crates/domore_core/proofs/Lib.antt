@@ -5,6 +5,7 @@ pub mod Need
 pub mod WaitsLeft
 pub mod Parts
 pub mod Kept
+pub mod Fixed
 pub mod Textual
 pub mod Course
 pub mod Finished

@@ -5,21 +5,19 @@ use Rattle.settle_law.specs.Cuts.{Cut, HoldsFixed}
 use Rattle.settle_law.specs.Traces.{Access, Replays, InOrder, settle, Apart}
 use Rattle.settle_law.specs.Tasks.{Realises}
 use Rattle.settle_law.specs.Courses.{Nest, Follows, family_of, outcome}
-use Rattle.settle_law.specs.Reading.{NestKeepsFixed}
 use Rattle.domore_core.specs.Facts.{facts_of}
 use Rattle.domore_core.specs.Machine.{Setup, State, opening, step, waits}
 use Rattle.domore_core.specs.Runs.{run, IsComplete, trace_from, is_finished, ending_of}
 
 -- A setup is for a nest where there is a worker and room in its queue; the first piece of each body realises the body's
--- cut turn; the cursor follows the course of the nest; `const` words have their values as the nest opens, and no
--- iteration writes them; and iterations whose claims don't clash are apart.
+-- cut turn; the cursor follows the course of the nest; `const` words have their values as the nest opens; and iterations
+-- whose claims don't clash are apart.
 pub record IsSetupFor {B C P : Type 0} (m : Setup B C P) (nest : Nest) (tree : B → Cut) (start : C) : Type 0 where
   pub some_worker : 0 < m.width
   pub some_room : 0 < m.room
   pub begins : (b : B) → Realises m.system (tree b) (m.entry b)
   pub follows : Follows nest tree m.event start nest.course
   pub opens_fixed : HoldsFixed m.system.fixed nest.opening
-  pub keeps_fixed : NestKeepsFixed m.system.fixed nest
   pub apart : (j k : ℕ) → j < k → m.clashes j k ≡ false → Apart (family_of m.system.fixed nest j) (family_of m.system.fixed nest k)
 
 -- a legal history leads from the opening to a state
