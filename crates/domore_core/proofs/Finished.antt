@@ -52,12 +52,12 @@ module _ {B C P : Type 0} (m : Setup B C P) (s : State B C P) (tickets : AllTick
   gone_row u (DoDropQueued ticket queue) some (idle, above) = worker_row u (DoDropQueued ticket queue) idle.own (λ gone. let is : Idle ≡ Gone = sym idle.hand ∙ gone in cc)
   gone_row u DoEnd some (idle, over) = worker_row u DoEnd idle.own (λ gone. (idle.queued, over))
 
-hand_gone : {P : Type 0} (hand : Hand P) → is_gone hand ≡ true → hand ≡ Gone
+pub hand_gone : {P : Type 0} (hand : Hand P) → is_gone hand ≡ true → hand ≡ Gone
 hand_gone Idle is = cc
 hand_gone (Holding k left piece) is = cc
 hand_gone Gone is = refl
 
-all_at : {B P : Type 0} (seats : List (Seat B P)) (u : ℕ) → list_all (λ (x : Seat B P). is_gone x.hand) seats ≡ true → u < length seats → (seat_at seats u).hand ≡ Gone
+pub all_at : {B P : Type 0} (seats : List (Seat B P)) (u : ℕ) → list_all (λ (x : Seat B P). is_gone x.hand) seats ≡ true → u < length seats → (seat_at seats u).hand ≡ Gone
 all_at [] u all lt = absurd (omega arith)
 all_at (x ∷ seats) zero all lt = hand_gone x.hand (and_parts _ _ all).0
 all_at (x ∷ seats) (suc u) all lt = all_at seats u (and_parts _ _ all).1 (omega arith)

@@ -13,3 +13,4 @@ pub mod Runs
 pub mod Progress
 pub mod Ahead
 pub mod Falls
+pub mod Ended

@@ -1,12 +1,12 @@
 -- What is claimed of every history, whatever the order of the actors in it.
-use Rattle.std.specs.Prelude.{◌≡◌, ℕ, ◌<◌, ◌≤◌, ℤ, true, false, Some, IsSome, List}
+use Rattle.std.specs.Prelude.{◌≡◌, ◌↔◌, ℕ, ◌+◌, ◌<◌, ◌≤◌, ℤ, true, false, Some, None, IsSome, List}
 use Rattle.nest_syntax.specs.Outcome.{Done}
 use Rattle.settle_law.specs.Cuts.{Cut, HoldsFixed}
 use Rattle.settle_law.specs.Traces.{Access, Replays, InOrder, settle, Apart}
 use Rattle.settle_law.specs.Tasks.{Realises}
 use Rattle.settle_law.specs.Courses.{Nest, Follows, family_of, outcome}
 use Rattle.domore_core.specs.Facts.{facts_of}
-use Rattle.domore_core.specs.Machine.{Setup, State, opening, step, waits}
+use Rattle.domore_core.specs.Machine.{Setup, State, opening, step, waits, ended_actor}
 use Rattle.domore_core.specs.Runs.{run, IsComplete, trace_from, is_finished, ending_of}
 
 -- A setup is for a nest where there is a worker and room in its queue; the first piece of each body realises the body's
@@ -55,3 +55,15 @@ pub record CanGoOn {B C P : Type 0} (m : Setup B C P) (s : State B C P) : Type 0
 -- In each state that a legal history leaves and that isn't finished, some actor has a step.
 abbrev pub UnfinishedGoOn : Type 0 → Type 0 → Type 0 → Type 0
 UnfinishedGoOn B C P = (m : Setup B C P) (nest : Nest) (tree : B → Cut) (start : C) → IsSetupFor m nest tree start → (history : List ℕ) (s : State B C P) → Leads m nest start history s → is_finished m s ≡ false → CanGoOn m s
+
+-- An actor whose part is ended has no step.
+abbrev pub EndedHaveNoStep : Type 0 → Type 0 → Type 0 → Type 0
+EndedHaveNoStep B C P = (m : Setup B C P) (s : State B C P) (actor : ℕ) → ended_actor m s actor ≡ true → step m s actor ≡ None
+
+-- Its part stays ended, whoever makes a step.
+abbrev pub EndedStay : Type 0 → Type 0 → Type 0 → Type 0
+EndedStay B C P = (m : Setup B C P) (nest : Nest) (tree : B → Cut) (start : C) → IsSetupFor m nest tree start → (history : List ℕ) (s t : State B C P) (actor other : ℕ) → Leads m nest start history s → ended_actor m s actor ≡ true → step m s other ≡ Some t → ended_actor m t actor ≡ true
+
+-- The machine is finished exactly where the parts of all actors are ended: the workers, the scheduler and one more.
+abbrev pub FinishedIsAllEnded : Type 0 → Type 0 → Type 0 → Type 0
+FinishedIsAllEnded B C P = (m : Setup B C P) (nest : Nest) (tree : B → Cut) (start : C) → IsSetupFor m nest tree start → (history : List ℕ) (s : State B C P) → Leads m nest start history s → (is_finished m s ≡ true) ↔ ((actor : ℕ) → actor < m.width + 2 → ended_actor m s actor ≡ true)

@@ -5,7 +5,7 @@
 //! `specs/` has the machine as a definition, for any bodies, cursors and pieces of work, and what is claimed of it.
 #![tactic(auto)]
 
-ghost use Rattle.domore_core.specs.Theorems.{HistoriesKeepOrder, HistoriesEndAsNest, FactsAreOfNest, UnfinishedGoOn};
+ghost use Rattle.domore_core.specs.Theorems.{HistoriesKeepOrder, HistoriesEndAsNest, FactsAreOfNest, UnfinishedGoOn, EndedHaveNoStep, EndedStay, FinishedIsAllEnded};
 ghost use Rattle.domore_core.specs.Measure.{StepsFall, HistoriesAreBounded, OpeningIsWithinBound};
 
 /// Each legal history leaves a trace that replays from the opening words and is in order, and that settles to the words
@@ -48,5 +48,23 @@ pub fn histories_are_bounded<B, C, P>()
 /// Where the costs bound the fuel of all iterations, the measure of the opening is within the bound.
 pub fn opening_is_within_bound<B, C, P>()
     ensures { OpeningIsWithinBound B C P }
+{
+}
+
+/// An actor whose part is ended has no step.
+pub fn ended_have_no_step<B, C, P>()
+    ensures { EndedHaveNoStep B C P }
+{
+}
+
+/// The part of an actor stays ended.
+pub fn ended_stay<B, C, P>()
+    ensures { EndedStay B C P }
+{
+}
+
+/// The machine is finished exactly where the parts of all actors are ended.
+pub fn finished_is_all_ended<B, C, P>()
+    ensures { FinishedIsAllEnded B C P }
 {
 }
