@@ -14,3 +14,4 @@ pub mod Progress
 pub mod Ahead
 pub mod Falls
 pub mod Ended
+pub mod Sample
