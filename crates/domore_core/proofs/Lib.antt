@@ -5,7 +5,6 @@ pub mod Need
 pub mod WaitsLeft
 pub mod Parts
 pub mod Kept
-pub mod Fixed
 pub mod Textual
 pub mod Course
 pub mod Finished
