@@ -14,3 +14,4 @@ pub mod Ahead
 pub mod Falls
 pub mod Ended
 pub mod Sample
+pub mod Counting

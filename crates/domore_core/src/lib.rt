@@ -6,6 +6,7 @@
 #![tactic(auto)]
 
 ghost use Rattle.domore_core.specs.Theorems.{HistoriesKeepOrder, HistoriesEndAsNest, FactsAreOfNest, UnfinishedGoOn, EndedHaveNoStep, EndedStay, FinishedIsAllEnded};
+ghost use Rattle.domore_core.specs.Facts.{FactsCount};
 ghost use Rattle.domore_core.specs.Measure.{StepsFall, HistoriesAreBounded, OpeningIsWithinBound};
 
 /// Each legal history leaves a trace that replays from the opening words and is in order, and that settles to the words
@@ -24,6 +25,12 @@ pub fn histories_end_as_nest<B, C, P>()
 /// Where the nest doesn't trap, the facts of each complete history are those of the nest.
 pub fn facts_are_of_nest<B, C, P>()
     ensures { FactsAreOfNest B C P }
+{
+}
+
+/// The facts of a list of events are counts of it, and the first 64 of the waits of its iterations.
+pub fn facts_count()
+    ensures { FactsCount }
 {
 }
 
