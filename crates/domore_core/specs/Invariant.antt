@@ -10,7 +10,9 @@ use Rattle.settle_law.specs.Tasks.{Left}
 use Rattle.settle_law.specs.Courses.{Nest, Behind, End, family_of, iteration_at, reached, outcome}
 use Rattle.domore_core.specs.Waits.{Wait}
 use Rattle.domore_core.specs.Facts.{no_facts, facts_from}
-use Rattle.domore_core.specs.Machine.{Setup, State, Seat, Hand, Idle, Holding, Gone, Ticket, seat_at, done_at, waits}
+use Rattle.domore_core.specs.Machine.{Setup, State, Seat, Hand, Idle, Holding, Gone, Ticket, seat_at, done_at, waits, opening}
+use Rattle.domore_core.specs.Runs.{trace_from}
+use Rattle.domore_core.specs.Theorems.{IsSetupFor, Leads}
 
 abbrev pub Each : {A : Type 0} → (A → Type 0) → List A → Type 0
 Each P [] = Unit {0}
@@ -160,3 +162,7 @@ pub record Invariant {B C P : Type 0} (m : Setup B C P) (nest : Nest) (tree : B 
   pub words : WordsKept m.system.fixed nest.opening trace s.words
   pub course : CourseKept m nest tree s
   pub gone : AllGone m s
+
+-- Each legal history leaves a state with the invariant.
+abbrev pub HistoriesKeepInvariant : Type 0 → Type 0 → Type 0 → Type 0
+HistoriesKeepInvariant B C P = (m : Setup B C P) (nest : Nest) (tree : B → Cut) (start : C) → IsSetupFor m nest tree start → (history : List ℕ) (s : State B C P) → Leads m nest start history s → Invariant m nest tree s (trace_from m (opening m start nest.opening) history)

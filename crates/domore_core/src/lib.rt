@@ -6,8 +6,22 @@
 #![tactic(auto)]
 
 ghost use Rattle.domore_core.specs.Theorems.{HistoriesKeepOrder, HistoriesEndAsNest, FactsAreOfNest, UnfinishedGoOn, EndedHaveNoStep, EndedStay, FinishedIsAllEnded};
+ghost use Rattle.domore_core.specs.Waits.{NeedsAreGreatest};
 ghost use Rattle.domore_core.specs.Facts.{FactsCount};
+ghost use Rattle.domore_core.specs.Invariant.{HistoriesKeepInvariant};
 ghost use Rattle.domore_core.specs.Measure.{StepsFall, HistoriesAreBounded, OpeningIsWithinBound};
+
+/// What an iteration needs of a worker is the greatest lower iteration of that worker whose claims clash with its own.
+pub fn needs_are_greatest()
+    ensures { NeedsAreGreatest }
+{
+}
+
+/// Each legal history leaves a state with the invariant.
+pub fn histories_keep_invariant<B, C, P>()
+    ensures { HistoriesKeepInvariant B C P }
+{
+}
 
 /// Each legal history leaves a trace that replays from the opening words and is in order, and that settles to the words
 /// of the state.
