@@ -1,12 +1,12 @@
 -- The facts of a list of events, by what they count.
-use Rattle.std.proofs.Common.{◌≡◌, ℕ, zero, suc, ◌+◌, Bool, true, false, List, [], ◌∷◌, ◌++◌, map, take, length, refl, sym, ap, ◌∙◌, subst, arith, append-nil, append_assoc, length-append}
+use Rattle.std.proofs.Common.{◌≡◌, ℕ, zero, suc, ◌+◌, Bool, List, [], ◌∷◌, ◌++◌, map, take, length, refl, sym, ap, ◌∙◌, arith, append-nil, append_assoc, length-append}
 use Rattle.std.proofs.lemmas.List.{length-map}
 use Rattle.std.proofs.lemmas.List.Sums.{sum_by-append}
 use Rattle.std.specs.List.{count_by}
-use Rattle.nest_syntax.specs.Course.{Purpose, Ordinary, Header}
+use Rattle.nest_syntax.specs.Course.{Ordinary, Header}
 use Rattle.nest_syntax.specs.Outcome.{Event, Computes, Drains, Iterates, Closes, Ends, iterations_among}
 use Rattle.domore_core.specs.Waits.{Wait}
-use Rattle.domore_core.specs.Facts.{Listed, Facts, no_facts, computed, drained, listed_at, iterated, counted, facts_from, begins, is_header, is_drain, first_behind, listed_from, AreOf, FactsCount}
+use Rattle.domore_core.specs.Facts.{Listed, Facts, no_facts, computed, drained, listed_at, iterated, facts_from, is_header, is_drain, listed_from, FactsCount}
 use Rattle.domore_core.proofs.Course.{counts_iterations}
 
 abbrev pub is_crossing : Listed → Bool
@@ -39,38 +39,38 @@ module _ (waits : ℕ → List Wait) where
   adds_up : (facts : Facts) (prior : List Listed) (passed : List Event) → facts.listed ≡ take 64 prior → AddsUp facts prior passed
   adds_up facts prior [] same = record { invocations = omega arith; drains = omega arith; waits_too = omega arith; crossing = omega arith; listed = same ∙ ap (take 64) (sym (append-nil prior)) }
   adds_up facts prior (Computes Ordinary ∷ passed) same = let more = adds_up facts prior passed same in
-    let h : count_by is_header (Computes Ordinary ∷ passed) ≡ 0 + count_by is_header passed = headers (Computes Ordinary) passed 0 refl in
-    let d : count_by is_drain (Computes Ordinary ∷ passed) ≡ 0 + count_by is_drain passed = drain_count (Computes Ordinary) passed 0 refl in
-    record { invocations = omega (arith, more.invocations); drains = omega (arith, more.drains); waits_too = more.waits_too; crossing = more.crossing; listed = more.listed }
+      let h : count_by is_header (Computes Ordinary ∷ passed) ≡ 0 + count_by is_header passed = headers (Computes Ordinary) passed 0 refl in
+      let d : count_by is_drain (Computes Ordinary ∷ passed) ≡ 0 + count_by is_drain passed = drain_count (Computes Ordinary) passed 0 refl in
+      record { invocations = omega (arith, more.invocations); drains = omega (arith, more.drains); waits_too = more.waits_too; crossing = more.crossing; listed = more.listed }
   adds_up facts prior (Computes Header ∷ passed) same = let more = adds_up (computed Header facts) prior passed same in
-    let h : count_by is_header (Computes Header ∷ passed) ≡ 1 + count_by is_header passed = headers (Computes Header) passed 1 refl in
-    let d : count_by is_drain (Computes Header ∷ passed) ≡ 0 + count_by is_drain passed = drain_count (Computes Header) passed 0 refl in
-    record { invocations = omega (arith, more.invocations); drains = omega (arith, more.drains); waits_too = more.waits_too; crossing = more.crossing; listed = more.listed }
+      let h : count_by is_header (Computes Header ∷ passed) ≡ 1 + count_by is_header passed = headers (Computes Header) passed 1 refl in
+      let d : count_by is_drain (Computes Header ∷ passed) ≡ 0 + count_by is_drain passed = drain_count (Computes Header) passed 0 refl in
+      record { invocations = omega (arith, more.invocations); drains = omega (arith, more.drains); waits_too = more.waits_too; crossing = more.crossing; listed = more.listed }
   adds_up facts prior (Drains Ordinary ∷ passed) same = let more = adds_up (drained facts) prior passed same in
-    let h : count_by is_header (Drains Ordinary ∷ passed) ≡ 0 + count_by is_header passed = headers (Drains Ordinary) passed 0 refl in
-    let d : count_by is_drain (Drains Ordinary ∷ passed) ≡ 1 + count_by is_drain passed = drain_count (Drains Ordinary) passed 1 refl in
-    record { invocations = omega (arith, more.invocations); drains = omega (arith, more.drains); waits_too = more.waits_too; crossing = more.crossing; listed = more.listed }
+      let h : count_by is_header (Drains Ordinary ∷ passed) ≡ 0 + count_by is_header passed = headers (Drains Ordinary) passed 0 refl in
+      let d : count_by is_drain (Drains Ordinary ∷ passed) ≡ 1 + count_by is_drain passed = drain_count (Drains Ordinary) passed 1 refl in
+      record { invocations = omega (arith, more.invocations); drains = omega (arith, more.drains); waits_too = more.waits_too; crossing = more.crossing; listed = more.listed }
   adds_up facts prior (Drains Header ∷ passed) same = let more = adds_up (computed Header (drained facts)) prior passed same in
-    let h : count_by is_header (Drains Header ∷ passed) ≡ 1 + count_by is_header passed = headers (Drains Header) passed 1 refl in
-    let d : count_by is_drain (Drains Header ∷ passed) ≡ 1 + count_by is_drain passed = drain_count (Drains Header) passed 1 refl in
-    record { invocations = omega (arith, more.invocations); drains = omega (arith, more.drains); waits_too = more.waits_too; crossing = more.crossing; listed = more.listed }
+      let h : count_by is_header (Drains Header ∷ passed) ≡ 1 + count_by is_header passed = headers (Drains Header) passed 1 refl in
+      let d : count_by is_drain (Drains Header ∷ passed) ≡ 1 + count_by is_drain passed = drain_count (Drains Header) passed 1 refl in
+      record { invocations = omega (arith, more.invocations); drains = omega (arith, more.drains); waits_too = more.waits_too; crossing = more.crossing; listed = more.listed }
   adds_up facts prior (Iterates body scalars ∷ passed) same =
-    let new : List Listed = map (listed_at facts.iterations facts.first) (waits facts.iterations) in
-    let others : List Listed = listed_from waits (suc facts.iterations) facts.first passed in
-    let more : AddsUp (iterated (waits facts.iterations) facts) (prior ++ new) passed = adds_up (iterated (waits facts.iterations) facts) (prior ++ new) passed (ap (λ l. take 64 (l ++ new)) same ∙ take_again 64 prior new) in
-    let h : count_by is_header (Iterates body scalars ∷ passed) ≡ 0 + count_by is_header passed = headers (Iterates body scalars) passed 0 refl in
-    let d : count_by is_drain (Iterates body scalars ∷ passed) ≡ 0 + count_by is_drain passed = drain_count (Iterates body scalars) passed 0 refl in
-    let l : length (new ++ others) ≡ length (waits facts.iterations) + length others = length-append new others ∙ ap (λ x. x + length others) (length-map (waits facts.iterations) (listed_at facts.iterations facts.first)) in
-    let c : count_by is_crossing (new ++ others) ≡ count_by is_crossing new + count_by is_crossing others = count_append new others in
-    record { invocations = omega (arith, more.invocations); drains = omega (arith, more.drains); waits_too = omega (arith, more.waits_too, l); crossing = omega (arith, more.crossing, c); listed = more.listed ∙ ap (take 64) (append_assoc prior new others) }
+      let new : List Listed = map (listed_at facts.iterations facts.first) (waits facts.iterations) in
+      let others : List Listed = listed_from waits (suc facts.iterations) facts.first passed in
+      let more : AddsUp (iterated (waits facts.iterations) facts) (prior ++ new) passed = adds_up (iterated (waits facts.iterations) facts) (prior ++ new) passed (ap (λ l. take 64 (l ++ new)) same ∙ take_again 64 prior new) in
+      let h : count_by is_header (Iterates body scalars ∷ passed) ≡ 0 + count_by is_header passed = headers (Iterates body scalars) passed 0 refl in
+      let d : count_by is_drain (Iterates body scalars ∷ passed) ≡ 0 + count_by is_drain passed = drain_count (Iterates body scalars) passed 0 refl in
+      let l : length (new ++ others) ≡ length (waits facts.iterations) + length others = length-append new others ∙ ap (λ x. x + length others) (length-map (waits facts.iterations) (listed_at facts.iterations facts.first)) in
+      let c : count_by is_crossing (new ++ others) ≡ count_by is_crossing new + count_by is_crossing others = count_append new others in
+      record { invocations = omega (arith, more.invocations); drains = omega (arith, more.drains); waits_too = omega (arith, more.waits_too, l); crossing = omega (arith, more.crossing, c); listed = more.listed ∙ ap (take 64) (append_assoc prior new others) }
   adds_up facts prior (Closes ∷ passed) same = let more = adds_up facts prior passed same in
-    let h : count_by is_header (Closes ∷ passed) ≡ 0 + count_by is_header passed = headers Closes passed 0 refl in
-    let d : count_by is_drain (Closes ∷ passed) ≡ 0 + count_by is_drain passed = drain_count Closes passed 0 refl in
-    record { invocations = omega (arith, more.invocations); drains = omega (arith, more.drains); waits_too = more.waits_too; crossing = more.crossing; listed = more.listed }
+      let h : count_by is_header (Closes ∷ passed) ≡ 0 + count_by is_header passed = headers Closes passed 0 refl in
+      let d : count_by is_drain (Closes ∷ passed) ≡ 0 + count_by is_drain passed = drain_count Closes passed 0 refl in
+      record { invocations = omega (arith, more.invocations); drains = omega (arith, more.drains); waits_too = more.waits_too; crossing = more.crossing; listed = more.listed }
   adds_up facts prior (Ends ∷ passed) same = let more = adds_up facts prior passed same in
-    let h : count_by is_header (Ends ∷ passed) ≡ 0 + count_by is_header passed = headers Ends passed 0 refl in
-    let d : count_by is_drain (Ends ∷ passed) ≡ 0 + count_by is_drain passed = drain_count Ends passed 0 refl in
-    record { invocations = omega (arith, more.invocations); drains = omega (arith, more.drains); waits_too = more.waits_too; crossing = more.crossing; listed = more.listed }
+      let h : count_by is_header (Ends ∷ passed) ≡ 0 + count_by is_header passed = headers Ends passed 0 refl in
+      let d : count_by is_drain (Ends ∷ passed) ≡ 0 + count_by is_drain passed = drain_count Ends passed 0 refl in
+      record { invocations = omega (arith, more.invocations); drains = omega (arith, more.drains); waits_too = more.waits_too; crossing = more.crossing; listed = more.listed }
 
 pub facts_count : FactsCount
 facts_count waits passed = let all = adds_up waits no_facts [] passed refl in record {

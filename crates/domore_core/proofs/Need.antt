@@ -1,6 +1,6 @@
 -- The waits of an iteration: they are of lower iterations, and cover each one of another worker whose claims clash.
-use Rattle.std.proofs.Common.{◌≡◌, ℕ, zero, suc, ◌+◌, ◌%◌, ◌<◌, ◌≤◌, ◌⊎◌, Bool, true, false, ◌&&◌, if◌then◌else◌, ◌==◌, Option, Some, None, List, [], ◌∷◌, ◌++◌, length, refl, sym, ap, ◌∙◌, subst, inl, inr, ⊎_elim, arith, length-append}
-use Rattle.std.proofs.lemmas.Bool.{eq-eqb, ne_eqb, eqb-true, cases_eq, cases_lt, and_parts, and_from}
+use Rattle.std.proofs.Common.{◌≡◌, ℕ, zero, suc, ◌%◌, ◌<◌, ◌≤◌, Bool, true, false, ◌&&◌, if◌then◌else◌, ◌==◌, Option, Some, None, List, [], ◌∷◌, ◌++◌, length, refl, sym, ap, ◌∙◌, inl, inr, ⊎_elim, arith, length-append}
+use Rattle.std.proofs.lemmas.Bool.{eq-eqb, ne_eqb, eqb-true, cases_lt, and_parts, and_from}
 use Rattle.std.proofs.lemmas.Nat.{mod_below}
 use Rattle.domore_core.specs.Waits.{Wait, greatest_clash, need, wait_for, waits_below, waits_of, Clashes, IsGreatest, NeedsAreGreatest}
 use Rattle.domore_core.specs.Invariant.{Each, Covers, IsWaitOf}
@@ -36,10 +36,10 @@ module _ (clashes : ℕ → ℕ → Bool) (width k : ℕ) where
       go : (t : Bool) → ((j % width == u) && clashes j k) ≡ t → (i < j → IsAtLeast i (greatest_clash clashes width k u j)) → IsAtLeast i (if t then Some j else greatest_clash clashes width k u j)
       go true e more = omega arith
       go false e more = ⊎_elim more
-        (λ ge. let same : i ≡ j = omega arith in
+          (λ ge. let same : i ≡ j = omega arith in
           let both : ((j % width == u) && clashes j k) ≡ true = and_from _ _ (eq-eqb _ _ (ap (λ x. x % width) (sym same) ∙ own)) (ap (λ x. clashes x k) (sym same) ∙ clash) in
           absurd (cc))
-        (cases_lt i j)
+          (cases_lt i j)
 
   covers_left : (xs ys : List Wait) (j : ℕ) → Covers width xs j → Covers width (xs ++ ys) j
   covers_left [] ys j c = elim c [ ]
@@ -64,9 +64,9 @@ module _ (clashes : ℕ → ℕ → Bool) (width k : ℕ) where
   below_covers : (n j : ℕ) → j < k → j % width < n → (j % width ≡ k % width → ⊥) → clashes j k ≡ true → Covers width (waits_below clashes width k n) j
   below_covers zero j lt below other clash = absurd (omega arith)
   below_covers (suc u) j lt below other clash = ⊎_elim
-    (λ l. covers_left (waits_below clashes width k u) (on_worker u) j (below_covers u j lt l other clash))
-    (λ ge. covers_right (waits_below clashes width k u) (on_worker u) j (on_worker_covers u j lt (omega arith) other clash))
-    (cases_lt (j % width) u)
+      (λ l. covers_left (waits_below clashes width k u) (on_worker u) j (below_covers u j lt l other clash))
+      (λ ge. covers_right (waits_below clashes width k u) (on_worker u) j (on_worker_covers u j lt (omega arith) other clash))
+      (cases_lt (j % width) u)
 
   need_waits : (u : ℕ) (o : Option ℕ) → IsFound u k o → Each (IsWaitOf width k) (wait_for u o)
   need_waits u None f = tt

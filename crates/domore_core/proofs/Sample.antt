@@ -12,15 +12,14 @@ use Rattle.nest_syntax.specs.Outcome.{Done, TrappedAt, place_of_trap, Event as P
 use Rattle.settle_law.specs.Cuts.{Cut, Finished, Trapped, Reads, Writes}
 use Rattle.settle_law.specs.Traces.{Read, Write}
 use Rattle.settle_law.specs.Tasks.{Stop, Loads, Stores, Finishes, Traps, Realises, System}
-use Rattle.settle_law.specs.Courses.{Trap, Event, End, Scalar, Drain, Iterate, Close, Nest, outcome}
+use Rattle.settle_law.specs.Courses.{Event, End, Scalar, Drain, Iterate, Close, Nest, outcome}
 use Rattle.domore_core.specs.Waits.{waits_of}
 use Rattle.domore_core.specs.Facts.{no_facts, facts_from, facts_of}
 use Rattle.domore_core.specs.Machine.{Setup, State, opening, step, waits}
-use Rattle.domore_core.specs.Runs.{run, IsComplete, trace_from, is_finished, ending_of}
+use Rattle.domore_core.specs.Runs.{run, trace_from, is_finished, ending_of}
 use Rattle.domore_core.specs.Theorems.{IsSetupFor, Completes}
 use Rattle.domore_core.specs.Measure.{bound, measure, Costs}
 use Rattle.domore_core.proofs.Runs.{ends_as}
-use Rattle.domore_core.proofs.Falls.{opening_within}
 
 -- a body writes a word, or reads word 0 and writes one more into word 1, or traps
 data Body : Type 0 where
