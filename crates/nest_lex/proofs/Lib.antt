@@ -10,3 +10,5 @@ pub mod OneReading
 pub mod Written
 pub mod OneAnswer
 pub mod WellNamed
+pub mod Dividing
+pub mod Searching

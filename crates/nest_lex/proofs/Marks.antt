@@ -1,20 +1,20 @@
 -- What stands where no word stands.
-use Rattle.std.proofs.Common.{◌≡◌, ℕ, zero, suc, ◌+◌, ◌-◌, ◌<◌, ◌≤◌, Bool, true, false, List, [], ◌∷◌, ◌++◌, length, get_or, take, drop, refl, sym, ap, ◌∙◌, subst, inl, inr, arith, slice_range, slice_index}
+use Rattle.std.proofs.Common.{◌≡◌, ℕ, zero, suc, ◌+◌, ◌-◌, ◌<◌, ◌≤◌, true, false, List, [], ◌∷◌, ◌++◌, length, get_or, take, drop, sym, ap, ◌∙◌, subst, arith, slice_range, slice_index}
 use Rattle.std.specs.List.{list_all}
 use Rattle.std.proofs.lemmas.Bool.{false≢true}
 use Rattle.std.proofs.lemmas.List.{take-take}
 use Rattle.std.proofs.lemmas.List.Edits.{between_more}
 use Rattle.std.proofs.lemmas.Bool.Decides.{nat_tests}
-use Rattle.nest_lex.specs.Bytes.{is_digit, is_letter, is_word_byte, is_blank}
-use Rattle.nest_lex.specs.Spelling.{keyword_text, mark_text, Spells}
+use Rattle.nest_lex.specs.Bytes.{is_digit, is_word_byte, is_blank}
+use Rattle.nest_lex.specs.Spelling.{mark_text, Spells}
 use Rattle.nest_lex.specs.Pieces.{Stands, OpensLine, OpensBlock}
 use Rattle.nest_lex.specs.Text.{IsBadByte}
 use Rattle.nest_lex.specs.Scans.{IsLongestMark, NoMark}
 use Rattle.nest_lex.specs.declared.piece.Piece.{Piece}
 use Rattle.nest_lex.specs.declared.piece.Piece.TheVariants as piece
 use Rattle.nest_lex.specs.declared.token.Mark.{Mark}
-use Rattle.nest_lex.proofs.Ranges.{all_at_place, all_at, first_byte, word_from_digit, word_from_letter, length-range}
-use Rattle.nest_lex.proofs.Tables.{keyword_words, keyword_some, mark_begins, mark_some, front_of, front_text}
+use Rattle.nest_lex.proofs.Ranges.{all_at_place, first_byte, word_from_digit, length-range}
+use Rattle.nest_lex.proofs.Tables.{keyword_words, mark_begins, mark_some, front_of, front_text}
 
 one_range : (text : List ℕ) (at : ℕ) → at < length text → slice_range text at (at + 1) ≡ get_or text at 0 ∷ []
 one_range text at within =

@@ -2,7 +2,7 @@
 use Rattle.std.proofs.Common.{◌≡◌, ◌⊎◌, ℕ, List, Err, Result, refl, sym, ap, ◌∙◌, inl, inr}
 use Rattle.nest_lex.specs.Load.{no_load}
 use Rattle.nest_lex.specs.Places.{spot_of}
-use Rattle.nest_lex.specs.Text.{Ending, Whole, Faulty, AreTokens, IsFault, IsRefusal, tokens_of}
+use Rattle.nest_lex.specs.Text.{Whole, Faulty, AreTokens, IsFault, IsRefusal, tokens_of}
 use Rattle.nest_lex.specs.declared.refused.LexKind.{LexKind}
 use Rattle.nest_lex.specs.declared.refused.LexRefused.{LexRefused}
 use Rattle.nest_lex.specs.declared.refused.LexRefused.TheVariants as refused

@@ -1,21 +1,19 @@
 -- A text has one reading.
-use Rattle.std.proofs.Common.{◌≡◌, ℕ, ◌+◌, ◌-◌, ◌<◌, ◌≤◌, Bool, true, false, List, [], ◌∷◌, ◌++◌, length, get_or, slice_range, slice_index, refl, sym, ap, subst, ◌∙◌, inl, inr, arith}
-use Rattle.std.specs.List.{list_all}
+use Rattle.std.proofs.Common.{◌≡◌, ℕ, ◌+◌, ◌-◌, Bool, true, false, List, [], ◌∷◌, length, get_or, slice_range, slice_index, refl, sym, ap, subst, ◌∙◌, inl, inr, arith}
 use Rattle.std.proofs.lemmas.Bool.{false≢true, cases_lt}
 use Rattle.std.proofs.lemmas.List.{get_or_past}
-use Rattle.nest_lex.specs.Bytes.{is_blank, is_digit, is_letter, is_word_byte}
+use Rattle.nest_lex.specs.Bytes.{is_blank, is_digit, is_word_byte}
 use Rattle.nest_lex.specs.Load.{load_after, IsAllowed}
-use Rattle.nest_lex.specs.Pieces.{IsGap, Gaps, Stands, OpensLine, OpensBlock, ClosesBlock, IsLineEnd, IsBlockEnd}
-use Rattle.nest_lex.specs.Spelling.{keyword_text, mark_text, Spells, IsNumber, IsName}
-use Rattle.nest_lex.specs.Text.{Lexeme, Ending, Whole, Faulty, EndsAt, Reads, IsBadByte, IsBadNumber, IsBadComment, IsTooDense}
+use Rattle.nest_lex.specs.Pieces.{IsGap, Gaps, Stands, OpensLine, OpensBlock, IsLineEnd, IsBlockEnd}
+use Rattle.nest_lex.specs.Spelling.{keyword_text, mark_text, Spells, IsNumber}
+use Rattle.nest_lex.specs.Text.{Lexeme, Ending, Whole, Faulty, EndsAt, Reads, IsBadByte, IsBadNumber, IsBadComment}
 use Rattle.nest_lex.specs.declared.load.Load.{Load}
 use Rattle.nest_lex.specs.declared.piece.Piece.{Piece}
 use Rattle.nest_lex.specs.declared.piece.Piece.TheVariants as piece
 use Rattle.nest_lex.specs.declared.refused.LexKind.{LexKind}
 use Rattle.nest_lex.specs.declared.refused.LexKind.TheVariants as fault
 use Rattle.nest_lex.specs.declared.token.Keyword.{Keyword}
-use Rattle.nest_lex.specs.declared.token.Mark.{Mark}
-use Rattle.nest_lex.proofs.Ranges.{all_at, first_byte, word_from_digit, word_from_letter, letter_no_digit, length-range, blank_no_word}
+use Rattle.nest_lex.proofs.Ranges.{all_at, first_byte, word_from_digit, word_from_letter, letter_no_digit, blank_no_word}
 use Rattle.nest_lex.proofs.Tables.{keyword_begins, keyword_words, keyword_some, mark_begins, mark_no_blank}
 use Rattle.nest_lex.proofs.Written.{one_keyword, one_mark}
 
@@ -63,7 +61,7 @@ one_standing text at next next' p q a b =
     (subst (λ (n : ℕ). Spells q (slice_range text at n)) (sym (one_end text at next next' p q a b)) b.spelled)
 
 -- a gap ends at one place
-one_line_end : (text : List ℕ) (from to to' : ℕ) → IsLineEnd text from to → IsLineEnd text from to' → to ≡ to'
+pub one_line_end : (text : List ℕ) (from to to' : ℕ) → IsLineEnd text from to → IsLineEnd text from to' → to ≡ to'
 one_line_end text from to to' a b = elim (cases_lt to to') [
   | inl less ↦ absurd (b.none_before to a.ordered less (a.ends (omega (arith, b.within))))
   | inr least ↦ elim (cases_lt to' to) [

@@ -1,5 +1,5 @@
 -- A reader's way over a text.
-use Rattle.std.proofs.Common.{◌≡◌, ℕ, ◌+◌, ◌<◌, ◌≤◌, Bool, true, List, [], ◌∷◌, ◌++◌, length, map, slice_range, refl, sym, ap, subst, ◌∙◌, arith, append_assoc, length-append}
+use Rattle.std.proofs.Common.{◌≡◌, ℕ, ◌<◌, ◌≤◌, List, [], ◌∷◌, ◌++◌, length, map, slice_range, refl, sym, ap, subst, ◌∙◌, arith, append_assoc, length-append}
 use Rattle.std.proofs.lemmas.List.{map-append, append-nil}
 use Rattle.std.proofs.lemmas.List.Sums.{fold-append}
 use Rattle.nest_lex.specs.Load.{no_load, load_after, IsAllowed}
@@ -7,7 +7,7 @@ use Rattle.nest_lex.specs.Found.{IsBad}
 use Rattle.nest_lex.specs.Pieces.{IsGap, Stands}
 use Rattle.nest_lex.specs.Places.{spot_of}
 use Rattle.nest_lex.specs.Reader.{Went, AllKnown, IsKnown}
-use Rattle.nest_lex.specs.Text.{Lexeme, Ending, Whole, Faulty, Reads, AreTokens, IsFault, bytes_of, names_of, names_with, kind_of, token_of, tokens_of}
+use Rattle.nest_lex.specs.Text.{Lexeme, Ending, Whole, Faulty, Reads, AreTokens, IsFault, bytes_of, names_of, names_with, kind_of, token_of}
 use Rattle.nest_lex.specs.declared.load.Load.{Load}
 use Rattle.nest_lex.specs.declared.piece.Piece.{Piece}
 use Rattle.nest_lex.specs.declared.refused.LexKind.{LexKind}

@@ -1,6 +1,5 @@
 -- Bounds on lines and columns.
-use Rattle.std.proofs.Common.{ℕ, ◌+◌, ◌≤◌, not, List, length, take, arith, count_by}
-use Rattle.std.specs.List.{suffix_len}
+use Rattle.std.proofs.Common.{ℕ, ◌+◌, ◌≤◌, not, List, length, take, arith}
 use Rattle.std.proofs.lemmas.List.Sums.{suffix_len-le-length, count_by-le-length}
 use Rattle.std.proofs.lemmas.Grind.{common_steps}
 use Rattle.nest_lex.specs.Places.{spot_of, is_line_feed}

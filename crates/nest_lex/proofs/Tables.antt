@@ -2,6 +2,7 @@
 use Rattle.std.proofs.Common.{◌≡◌, ℕ, ◌-◌, ◌≤◌, Bool, true, false, List, length, take, refl, arith, slice_index}
 use Rattle.std.specs.List.{list_all}
 use Rattle.nest_lex.specs.Bytes.{is_word_byte, is_digit, is_blank}
+use Rattle.nest_lex.specs.Scans.{is_newer}
 use Rattle.nest_lex.specs.Spelling.{keyword_text, mark_text}
 use Rattle.nest_lex.specs.declared.token.Keyword.{Keyword}
 use Rattle.nest_lex.specs.declared.token.Keyword.TheVariants as keyword
@@ -349,3 +350,12 @@ front_text mark.Not two = absurd (omega arith)
 front_text mark.Flip two = absurd (omega arith)
 front_text mark.Increment two = refl
 front_text mark.Decrement two = refl
+
+-- a word that is no older and no newer keyword is none
+pub no_keyword : (word : List ℕ) → ((k : Keyword) → is_newer k ≡ false → keyword_text k ≡ word → ⊥) → ((k : Keyword) → is_newer k ≡ true → keyword_text k ≡ word → ⊥)
+    → (k : Keyword) → keyword_text k ≡ word → ⊥
+no_keyword word older newer k same = by (is_newer k) refl
+  where
+    by : (b : Bool) → is_newer k ≡ b → ⊥
+    by true e = newer k e same
+    by false e = older k e same

@@ -1,5 +1,5 @@
 -- The names of the tokens of a text differ, and each is numbered within them.
-use Rattle.std.proofs.Common.{◌≡◌, ◌≢◌, ℕ, zero, suc, ◌+◌, ◌<◌, ◌≤◌, Bool, true, false, List, [], ◌∷◌, ◌++◌, if◌then◌else◌, length, get_or, map, refl, sym, ap, subst, ◌∙◌, arith}
+use Rattle.std.proofs.Common.{◌≡◌, ◌≢◌, ℕ, zero, suc, ◌≤◌, Bool, true, false, List, [], ◌∷◌, ◌++◌, if◌then◌else◌, length, get_or, map, refl, sym, ap, subst, ◌∙◌, arith}
 use Rattle.std.specs.List.{list_any, fold, All, AllPairs}
 use Rattle.std.specs.Str.{bytes_eq}
 use Rattle.std.proofs.lemmas.Bool.{false≢true}
@@ -9,7 +9,7 @@ use Rattle.std.proofs.lemmas.List.Folds.{list_any_at}
 use Rattle.nest_lex.specs.Reader.{AllKnown, IsKnown, Went}
 use Rattle.nest_lex.specs.Load.{no_load, load_after}
 use Rattle.nest_lex.specs.Spelling.{Spells}
-use Rattle.nest_lex.specs.Text.{Lexeme, Ending, Whole, Reads, AreTokens, AreWellNamed, IsKindWithin, bytes_of, with_name, names_with, names_of, kind_of, token_of}
+use Rattle.nest_lex.specs.Text.{Lexeme, Ending, Whole, Reads, AreWellNamed, IsKindWithin, bytes_of, with_name, names_with, kind_of, token_of}
 use Rattle.nest_lex.specs.declared.load.Load.{Load}
 use Rattle.nest_lex.specs.declared.piece.Piece.{Piece}
 use Rattle.nest_lex.specs.declared.piece.Piece.TheVariants as piece

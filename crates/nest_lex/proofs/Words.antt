@@ -1,5 +1,5 @@
 -- What stands where a word stands.
-use Rattle.std.proofs.Common.{◌≡◌, ℕ, ◌+◌, ◌-◌, ◌<◌, ◌≤◌, Bool, true, false, List, length, get_or, refl, sym, ap, ◌∙◌, subst, inl, inr, arith, slice_range, slice_index}
+use Rattle.std.proofs.Common.{◌≡◌, ℕ, ◌<◌, ◌≤◌, Bool, true, false, List, length, get_or, sym, ap, ◌∙◌, subst, inl, inr, arith, slice_range, slice_index}
 use Rattle.std.specs.List.{list_all}
 use Rattle.std.proofs.lemmas.Bool.{false≢true, cases_lt}
 use Rattle.nest_lex.specs.Bytes.{is_digit, is_letter, is_word_byte}
@@ -10,7 +10,7 @@ use Rattle.nest_lex.specs.Scans.{IsWordEnd}
 use Rattle.nest_lex.specs.declared.piece.Piece.{Piece}
 use Rattle.nest_lex.specs.declared.piece.Piece.TheVariants as piece
 use Rattle.nest_lex.specs.declared.token.Keyword.{Keyword}
-use Rattle.nest_lex.proofs.Ranges.{all_at_place, first_byte, word_from_digit, letter_no_digit, letter_from_word, length-range, all_from_places}
+use Rattle.nest_lex.proofs.Ranges.{all_at_place, first_byte, word_from_digit, letter_no_digit, letter_from_word, all_from_places}
 use Rattle.nest_lex.proofs.Tables.{keyword_words, keyword_begins, mark_begins}
 
 -- a word goes no further than its end

@@ -1,4 +1,4 @@
--- What stands at a place of a text: a gap, a piece or a fault.
+-- What stands at a place of a text: a gap, a piece or a fault. No caller of `lex` needs this.
 use Rattle.std.specs.Prelude.{ℕ, ◌<◌, ◌≤◌, List, length}
 use Rattle.nest_lex.specs.Pieces.{IsGap, Stands}
 use Rattle.nest_lex.specs.Text.{IsBadByte, IsBadNumber, IsBadComment}
@@ -14,6 +14,7 @@ IsBad text at fault.Number = IsBadNumber text at
 IsBad text at fault.Comment = IsBadComment text at
 IsBad text at fault.Dense = ⊥
 
+-- the gap or the piece is there, or nothing is, for that reason
 abbrev pub IsFound : List ℕ → ℕ → Found → Type 0
 IsFound text at (Gap to) = (at < to) × (to ≤ length text) × IsGap text at to
 IsFound text at (Piece p next) = Stands text p at next

@@ -8,3 +8,4 @@ pub mod Parts
 pub mod Scans
 pub mod Found
 pub mod Reader
+pub mod Markers

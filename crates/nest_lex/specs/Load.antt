@@ -23,10 +23,12 @@ run_by n mark.OpenCurly = 0
 run_by n mark.CloseCurly = 0
 run_by n _ = n + 1
 
--- `Load` holds the brackets that are open, and the tokens since the last of `;`, `{`, `}` or the start
+-- A load is the brackets that are open, and the tokens since the last of `;`, `{`, `}` or the start. At the start both
+-- are 0.
 abbrev pub no_load : Load
 no_load = record { opened = 0; run = 0 }
 
+-- the load behind a piece
 abbrev pub load_after : Load → Piece → Load
 load_after load (piece.Mark m) = record { opened = opened_by load.opened m; run = run_by load.run m }
 load_after load _ = record { opened = load.opened; run = load.run + 1 }

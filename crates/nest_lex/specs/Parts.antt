@@ -1,14 +1,14 @@
 -- The parts of the input: the nest, the data lines, the step words.
-use Rattle.std.specs.Prelude.{◌≡◌, ℕ, ◌+◌, ◌<◌, ◌≤◌, min, Bool, true, List, length, slice_index, slice_range, take, drop, Option, Some, None, codes}
+use Rattle.std.specs.Prelude.{◌≡◌, ℕ, ◌+◌, ◌<◌, ◌≤◌, min, true, List, length, slice_index, slice_range, take, drop, Some, None, codes}
 use Rattle.std.specs.List.{list_all}
 use Rattle.nest_lex.specs.Bytes.{is_space}
 use Rattle.nest_lex.specs.Pieces.{IsLineEnd}
 use Rattle.nest_lex.specs.Places.{spot_of}
-use Rattle.nest_lex.specs.declared.token.Spot.{Spot}
-use Rattle.nest_lex.specs.declared.parts.Marker.{Marker}
-use Rattle.nest_lex.specs.declared.parts.Marker.TheVariants.{Data, Steps}
-use Rattle.nest_lex.specs.declared.parts.Parts.{Parts}
+use Rattle.nest_lex.specs.declared.input.Marker.{Marker}
+use Rattle.nest_lex.specs.declared.input.Marker.TheVariants.{Data, Steps}
+use Rattle.nest_lex.specs.declared.input.Parts.{Parts}
 
+-- the word of a marker
 abbrev pub marker_text : Marker → List ℕ
 marker_text Data = codes "data"
 marker_text Steps = codes "steps"

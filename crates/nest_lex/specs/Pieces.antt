@@ -1,5 +1,5 @@
 -- What stands at a place of a text: a gap, or a piece.
-use Rattle.std.specs.Prelude.{◌≡◌, ℕ, ◌+◌, ◌<◌, ◌≤◌, ◌⊎◌, Bool, true, false, List, [], ◌∷◌, length, slice_index, slice_range}
+use Rattle.std.specs.Prelude.{◌≡◌, ℕ, ◌+◌, ◌<◌, ◌≤◌, ◌⊎◌, true, false, List, [], ◌∷◌, length, slice_index, slice_range}
 use Rattle.nest_lex.specs.Bytes.{is_word_byte, is_blank}
 use Rattle.nest_lex.specs.Spelling.{Spells}
 use Rattle.nest_lex.specs.declared.piece.Piece.{Piece}

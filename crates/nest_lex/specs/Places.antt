@@ -3,6 +3,7 @@ use Rattle.std.specs.Prelude.{ℕ, ◌+◌, List, Bool, ◌==◌, not, count_by,
 use Rattle.std.specs.List.{suffix_len}
 use Rattle.nest_lex.specs.declared.token.Spot.{Spot}
 
+-- a line feed
 abbrev pub is_line_feed : ℕ → Bool
 is_line_feed b = b == 10
 

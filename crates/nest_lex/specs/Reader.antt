@@ -1,5 +1,5 @@
 -- How far a reader has come. No caller of `lex` needs this.
-use Rattle.std.specs.Prelude.{◌≡◌, ℕ, ◌≤◌, Bool, true, List, [], ◌∷◌, ◌++◌, length, map}
+use Rattle.std.specs.Prelude.{◌≡◌, ℕ, ◌≤◌, true, List, [], ◌∷◌, ◌++◌, length, map}
 use Rattle.std.specs.List.{list_any}
 use Rattle.std.specs.Str.{bytes_eq}
 use Rattle.nest_lex.specs.Places.{spot_of}
@@ -17,6 +17,7 @@ abbrev pub IsKnown : List (List ℕ) → List ℕ → Piece → Type 0
 IsKnown names bytes piece.Name = list_any (bytes_eq bytes) names ≡ true
 IsKnown names bytes _ = Unit {0}
 
+-- each name among the lexemes is
 abbrev pub AllKnown : List ℕ → List (List ℕ) → List Lexeme → Type 0
 AllKnown text names [] = Unit {0}
 AllKnown text names (lexeme ∷ more) = IsKnown names (bytes_of text lexeme) lexeme.is × AllKnown text names more

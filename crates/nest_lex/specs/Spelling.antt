@@ -1,5 +1,5 @@
 -- How the bytes of a token are written.
-use Rattle.std.specs.Prelude.{◌≡◌, ℕ, ◌+◌, ◌-◌, ◌*◌, ◌≤◌, Bool, true, List, [], ◌∷◌, length, IsTrue, ◌==◌, slice_index, codes, fold}
+use Rattle.std.specs.Prelude.{◌≡◌, ℕ, ◌+◌, ◌-◌, ◌*◌, ◌≤◌, true, List, length, slice_index, codes, fold}
 use Rattle.std.specs.List.{list_all}
 use Rattle.nest_lex.specs.Bytes.{is_letter, is_digit, is_word_byte}
 use Rattle.nest_lex.specs.declared.token.Keyword.{Keyword}
@@ -9,6 +9,7 @@ use Rattle.nest_lex.specs.declared.token.Mark.TheVariants as mark
 use Rattle.nest_lex.specs.declared.piece.Piece.{Piece}
 use Rattle.nest_lex.specs.declared.piece.Piece.TheVariants as piece
 
+-- how a keyword is written
 abbrev pub keyword_text : Keyword → List ℕ
 keyword_text keyword.Auto = codes "auto"
 keyword_text keyword.Break = codes "break"
@@ -48,6 +49,7 @@ keyword_text keyword.Bool = codes "_Bool"
 keyword_text keyword.Complex = codes "_Complex"
 keyword_text keyword.Imaginary = codes "_Imaginary"
 
+-- how a mark is written
 abbrev pub mark_text : Mark → List ℕ
 mark_text mark.OpenRound = codes "("
 mark_text mark.CloseRound = codes ")"

@@ -1,5 +1,5 @@
 -- The tokens of a text, or its first fault.
-use Rattle.std.specs.Prelude.{◌≡◌, ◌≢◌, ℕ, ◌+◌, ◌^◌, ◌<◌, ◌≤◌, Bool, true, false, List, [], ◌∷◌, ◌++◌, All, AllPairs, length, fold, filter_map, map, Option, Some, None, if◌then◌else◌, slice_index, slice_range}
+use Rattle.std.specs.Prelude.{◌≡◌, ◌≢◌, ℕ, ◌+◌, ◌^◌, ◌<◌, ◌≤◌, true, false, List, [], ◌∷◌, ◌++◌, All, AllPairs, length, fold, map, if◌then◌else◌, slice_index, slice_range}
 use Rattle.std.specs.List.{list_any, position_or_len}
 use Rattle.std.specs.Str.{bytes_eq}
 use Rattle.nest_lex.specs.Bytes.{is_digit, is_blank}
@@ -99,9 +99,11 @@ kind_of names bytes (piece.Number n) = kind.Number n
 kind_of names bytes (piece.Keyword k) = kind.Keyword k
 kind_of names bytes (piece.Mark m) = kind.Mark m
 
+-- the token of a lexeme
 abbrev pub token_of : List ℕ → List (List ℕ) → Lexeme → Token
 token_of text names lexeme = record { kind = kind_of names (bytes_of text lexeme) lexeme.is; spot = spot_of text lexeme.start }
 
+-- the tokens of a text that consists of these lexemes and of gaps
 abbrev pub tokens_of : List ℕ → List Lexeme → Tokens
 tokens_of text lexemes = let names = names_of text lexemes in
     record { names = names; list = map (token_of text names) lexemes; end = spot_of text (length text) }

@@ -32,10 +32,7 @@ fn mark_at(bytes: &[u8], at: usize) -> Option<(Mark, usize)>
     requires { at < length bytes.now }
     ensures { MatchOption result (NoMark bytes.now at) (λ r. IsLongestMark bytes.now r.0 at r.1) }
 {
-    let mut mark = match single_mark(bytes[at]) {
-        Some(mark) => mark,
-        None => return None,
-    };
+    let mut mark = single_mark(bytes[at])?;
     for next in at + 1..bytes.len() {
         match longer_mark(mark, bytes[next]) {
             Some(longer) => mark = longer,

@@ -102,16 +102,14 @@ impl<'a> Reader<'a> {
         ensures on { OnOk result (self.old.at < self.new.at) }
         ensures refused { IfErr result (IsRefusal bytes.now) }
     {
+        let at = self.spot;
         match found_at(bytes, self.at) {
             Found::Gap(to) => {
                 self.pass_gap(bytes, to);
                 Ok(())
             }
             Found::Piece(piece, next) => self.take_piece(alloc, bytes, piece, next),
-            Found::Fault(kind) => Err(LexRefused::Fault {
-                kind,
-                at: self.spot,
-            }),
+            Found::Fault(kind) => Err(LexRefused::Fault { kind, at }),
         }
     }
 

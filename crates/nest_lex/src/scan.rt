@@ -7,13 +7,13 @@ ghost use Rattle.nest_lex.specs.Scans.{IsWordEnd};
 pub fn is_letter(byte: u8) -> bool
     ensures { result ≡ class.is_letter byte }
 {
-    (b'a' <= byte && byte <= b'z') || (b'A' <= byte && byte <= b'Z') || byte == b'_'
+    matches!(byte, b'a'..=b'z' | b'A'..=b'Z' | b'_')
 }
 
 pub fn is_digit(byte: u8) -> bool
     ensures { result ≡ class.is_digit byte }
 {
-    b'0' <= byte && byte <= b'9'
+    matches!(byte, b'0'..=b'9')
 }
 
 pub fn is_word_byte(byte: u8) -> bool

@@ -1,5 +1,6 @@
 //! How keywords and marks are written.
-ghost use Rattle.std.specs.Prelude.{◌≡◌, ◌∷◌, ◌++◌, [], MatchOption};
+ghost use Rattle.std.specs.Prelude.{◌≡◌, ◌∷◌, ◌++◌, [], true, false, MatchOption};
+ghost use Rattle.nest_lex.specs.Scans.{is_newer};
 ghost use Rattle.nest_lex.specs.Spelling as spelling;
 ghost use Rattle.nest_lex.specs.declared.token.Keyword.{Keyword};
 ghost use Rattle.nest_lex.specs.declared.token.Mark.{Mark};
@@ -7,8 +8,20 @@ ghost use Rattle.nest_lex.specs.declared.token.Mark.{Mark};
 use crate::token::{Keyword, Mark};
 
 /// The keyword that this word is, if it is one.
+#[tactic(auto, using(crate::proofs::Tables::no_keyword))]
 pub fn keyword_of(word: &[u8]) -> Option<Keyword>
     ensures { MatchOption result ((k : Keyword) → spelling.keyword_text k ≡ word.now → ⊥) (λ k. spelling.keyword_text k ≡ word.now) }
+{
+    match older_keyword_of(word) {
+        Some(keyword) => Some(keyword),
+        None => newer_keyword_of(word),
+    }
+}
+
+/// The same for the 32 keywords that C had from 1989 on.
+fn older_keyword_of(word: &[u8]) -> Option<Keyword>
+    ensures { MatchOption result ((k : Keyword) → is_newer k ≡ false → spelling.keyword_text k ≡ word.now → ⊥)
+        (λ k. spelling.keyword_text k ≡ word.now) }
 {
     match word {
         b"auto" => Some(Keyword::Auto),
@@ -27,11 +40,9 @@ pub fn keyword_of(word: &[u8]) -> Option<Keyword>
         b"for" => Some(Keyword::For),
         b"goto" => Some(Keyword::Goto),
         b"if" => Some(Keyword::If),
-        b"inline" => Some(Keyword::Inline),
         b"int" => Some(Keyword::Int),
         b"long" => Some(Keyword::Long),
         b"register" => Some(Keyword::Register),
-        b"restrict" => Some(Keyword::Restrict),
         b"return" => Some(Keyword::Return),
         b"short" => Some(Keyword::Short),
         b"signed" => Some(Keyword::Signed),
@@ -45,6 +56,18 @@ pub fn keyword_of(word: &[u8]) -> Option<Keyword>
         b"void" => Some(Keyword::Void),
         b"volatile" => Some(Keyword::Volatile),
         b"while" => Some(Keyword::While),
+        _ => None,
+    }
+}
+
+/// The same for the five that came in 1999.
+fn newer_keyword_of(word: &[u8]) -> Option<Keyword>
+    ensures { MatchOption result ((k : Keyword) → is_newer k ≡ true → spelling.keyword_text k ≡ word.now → ⊥)
+        (λ k. spelling.keyword_text k ≡ word.now) }
+{
+    match word {
+        b"inline" => Some(Keyword::Inline),
+        b"restrict" => Some(Keyword::Restrict),
         b"_Bool" => Some(Keyword::Bool),
         b"_Complex" => Some(Keyword::Complex),
         b"_Imaginary" => Some(Keyword::Imaginary),

@@ -1,21 +1,17 @@
 -- What a derivation says of the operators and the names among the tokens.
-use Rattle.std.proofs.Common.{◌≡◌, ℕ, zero, suc, ◌+◌, ◌<◌, ◌≤◌, pos, Bool, true, false, cond, nat_lt, Option, Some, None, List, [], ◌∷◌, refl, sym, ap, ◌∙◌, subst, arith}
-use Rattle.std.specs.Prelude.{◌&&◌, is_some, count_by}
-use Rattle.std.specs.List.{list_all}
+use Rattle.std.proofs.Common.{◌≡◌, ℕ, ◌+◌, pos, cond, List, [], ◌∷◌, refl, sym, ap, ◌∙◌, arith}
+use Rattle.std.specs.Prelude.{is_some, count_by}
 use Rattle.std.proofs.lemmas.List.Sums.{sum_by-cons}
-use Rattle.nest_syntax.specs.declared.operators.Bin.{Bin}
 use Rattle.nest_syntax.specs.declared.tree.Expr.{Expr}
-use Rattle.nest_syntax.specs.declared.tree.Expr.TheVariants as expr
 use Rattle.nest_syntax.specs.FirstForm.{First, operators}
-use Rattle.nest_syntax.specs.Named.{expr_named}
 use Rattle.nest_lex.specs.declared.token.Mark.TheVariants as mark
 use Rattle.nest_lex.specs.declared.token.Kind.{Kind}
-use Rattle.nest_lex.specs.declared.token.Kind.TheVariants.{Name, Number, Keyword, Mark}
+use Rattle.nest_lex.specs.declared.token.Kind.TheVariants.{Name, Number, Mark}
 use Rattle.nest_lex.specs.declared.token.Token.{Token}
 use Rattle.nest_parse.specs.declared.cursor.Part.{Part}
-use Rattle.nest_parse.specs.First.{token, Begins, no_more, one_more, operator_of, IsOperand, a_number, a_name, a_word, IsLevel, operand, level, IsTail, ended, goes_on, header_kinds, declaration_kinds, AreFirst}
+use Rattle.nest_parse.specs.First.{token, Begins, no_more, one_more, operator_of, IsOperand, a_number, a_name, a_word, IsLevel, operand, level, IsTail, ended, goes_on, AreFirst}
 use Rattle.nest_parse.specs.Reading.{is_operator}
-use Rattle.nest_parse.proofs.Equations.{operators_number, operators_scalar, operators_word, operators_binary, named_number, named_scalar, named_word, named_binary}
+use Rattle.nest_parse.proofs.Equations.{operators_number, operators_scalar, operators_word, operators_binary}
 
 -- how many of the tokens, and of the kinds, are operators
 abbrev pub among : List Token → ℕ

@@ -1,17 +1,17 @@
 -- Expressions joined by operators: what one turn of the loop keeps, and how it ends.
-use Rattle.std.proofs.Common.{◌≡◌, ℕ, suc, ◌+◌, ◌<◌, ◌≤◌, Bool, true, false, nat_le, Option, Some, None, Result, Ok, Err, List, [], ◌∷◌, length, refl, sym, ap, ◌∙◌, subst, add-one, arith, IfOk, MatchResult}
-use Rattle.std.specs.Prelude.{not, ◌&&◌, ⊤}
+use Rattle.std.proofs.Common.{◌≡◌, ℕ, suc, ◌+◌, ◌≤◌, Bool, true, false, Option, Some, None, Result, Ok, Err, List, [], ◌∷◌, length, refl, sym, ap, ◌∙◌, subst, add-one, arith}
+use Rattle.std.specs.Prelude.{not, ◌&&◌}
 use Rattle.std.proofs.lemmas.Bool.Decides.{nat_tests}
 use Rattle.nest_syntax.specs.declared.operators.Bin.{Bin}
 use Rattle.nest_syntax.specs.declared.tree.Expr.{Expr}
 use Rattle.nest_syntax.specs.declared.tree.Expr.TheVariants as expr
 use Rattle.nest_lex.specs.declared.token.Mark.TheVariants as mark
 use Rattle.nest_lex.specs.declared.token.Kind.{Kind}
-use Rattle.nest_lex.specs.declared.token.Kind.TheVariants.{Name, Number, Keyword, Mark}
+use Rattle.nest_lex.specs.declared.token.Kind.TheVariants.{Mark}
 use Rattle.nest_lex.specs.declared.token.Token.{Token}
 use Rattle.nest_parse.specs.declared.cursor.Part.{Part}
 use Rattle.nest_parse.specs.declared.refused.FirstRefused.{FirstRefused}
-use Rattle.nest_parse.specs.declared.refused.FirstRefused.TheVariants.{Form, NoMemory}
+use Rattle.nest_parse.specs.declared.refused.FirstRefused.TheVariants.{NoMemory}
 use Rattle.nest_parse.specs.First.{token, operator_of, IsOperand, IsLevel, operand, level, IsTail, ended, goes_on}
 use Rattle.nest_parse.specs.Reading.{is_subscript, is_outside, ends, ReadsExpr, TakesOperator}
 

@@ -2,7 +2,7 @@ pub mod Passes
 pub mod Joins
 pub mod Operands
 pub mod Parts
-pub mod EndLines
+pub mod WholeNest
 pub mod Equations
 pub mod Counts
 pub mod Names

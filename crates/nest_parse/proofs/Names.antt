@@ -1,25 +1,20 @@
 -- Where each name number among the tokens is below a count, so is each in the program.
-use Rattle.std.proofs.Common.{◌≡◌, ℕ, zero, suc, ◌+◌, ◌<◌, ◌≤◌, pos, Bool, true, false, nat_lt, lt-ltb, Option, Some, None, List, [], ◌∷◌, length, refl, sym, ap, ◌∙◌, subst}
-use Rattle.std.specs.Prelude.{◌&&◌, IsTrue}
-use Rattle.std.specs.List.{list_all, AllByRecursion}
+use Rattle.std.proofs.Common.{◌≡◌, ℕ, pos, Bool, true, false, nat_lt, lt-ltb, List, [], ◌∷◌, length, refl, ◌∙◌, subst}
+use Rattle.std.specs.Prelude.{◌&&◌}
+use Rattle.std.specs.List.{AllByRecursion}
 use Rattle.std.proofs.lemmas.List.Elements.{recursion_from_All}
-use Rattle.nest_syntax.specs.declared.operators.Bin.{Bin}
 use Rattle.nest_syntax.specs.declared.operators.Op.TheVariants as op
 use Rattle.nest_syntax.specs.declared.tree.Expr.{Expr}
 use Rattle.nest_syntax.specs.declared.tree.Expr.TheVariants as expr
 use Rattle.nest_syntax.specs.declared.tree.Stmt.TheVariants as stmt
-use Rattle.nest_syntax.specs.declared.tree.Loop.{Loop}
-use Rattle.nest_syntax.specs.declared.tree.Program.{Program}
-use Rattle.nest_syntax.specs.FirstForm.{First, Turns, loop_of, decls_of, regions_of, program_of}
-use Rattle.nest_syntax.specs.Named.{expr_named, loop_named, decl_named, AreNames, IsWellNamed}
-use Rattle.nest_lex.specs.declared.token.Mark.TheVariants as mark
+use Rattle.nest_syntax.specs.FirstForm.{First, Turns, loop_of, program_of}
+use Rattle.nest_syntax.specs.Named.{expr_named, IsWellNamed}
 use Rattle.nest_lex.specs.declared.token.Kind.{Kind}
-use Rattle.nest_lex.specs.declared.token.Kind.TheVariants.{Name, Number, Keyword, Mark}
 use Rattle.nest_lex.specs.declared.token.Token.{Token}
 use Rattle.nest_lex.specs.declared.token.Tokens.{Tokens}
 use Rattle.nest_lex.specs.Text.{IsKindWithin, AreWellNamed}
 use Rattle.nest_parse.specs.declared.cursor.Part.{Part}
-use Rattle.nest_parse.specs.First.{token, Begins, no_more, one_more, operator_of, IsOperand, a_number, a_name, a_word, IsLevel, operand, level, IsTail, ended, goes_on, IsHeader, AreFirst}
+use Rattle.nest_parse.specs.First.{Begins, no_more, one_more, IsOperand, a_number, a_name, a_word, IsLevel, operand, level, IsTail, ended, goes_on, IsHeader, AreFirst}
 use Rattle.nest_parse.proofs.Equations.{named_number, named_scalar, named_word, named_binary, named_inner, named_outer}
 
 and_both : (a b : Bool) → a ≡ true → b ≡ true → a && b ≡ true
@@ -82,7 +77,7 @@ well_named tokens first named are =
     let g = level_named count write.is_value f.1 in
     let array : nat_lt first.array count ≡ true = lt-ltb first.array count a.0.1.0 in
     let inner = named_inner count first.inner first.write_line first.array first.place first.value
-        ∙ loop_is_named count first.inner _ c.0 (and_both _ _ array (and_both _ _ e.0 g.0)) in
+    ∙ loop_is_named count first.inner _ c.0 (and_both _ _ array (and_both _ _ e.0 g.0)) in
     record {
       names = record { few = named.few; differ = named.differ };
       decls = and_both _ _ array refl;

@@ -1,6 +1,5 @@
 -- Operands: one lemma for each way in which one is read or refused.
-use Rattle.std.proofs.Common.{◌≡◌, ℕ, suc, ◌+◌, ◌<◌, ◌≤◌, pos, Bool, true, false, Option, Some, None, Result, Ok, Err, List, [], ◌∷◌, length, refl, sym, ap, ◌∙◌, subst, add-one, arith, IfOk, MatchResult}
-use Rattle.std.specs.Prelude.{not, ◌&&◌, ⊤}
+use Rattle.std.proofs.Common.{◌≡◌, ℕ, ◌+◌, ◌≤◌, pos, true, Some, Result, Ok, Err, List, [], ◌∷◌, length, refl, sym, ap, ◌∙◌, subst, add-one, arith}
 use Rattle.nest_syntax.specs.declared.tree.Expr.{Expr}
 use Rattle.nest_syntax.specs.declared.tree.Expr.TheVariants as expr
 use Rattle.nest_lex.specs.declared.token.Spot.{Spot}
@@ -13,10 +12,9 @@ use Rattle.nest_lex.specs.declared.token.Token.{Token}
 use Rattle.nest_parse.specs.declared.cursor.Part.{Part}
 use Rattle.nest_parse.specs.declared.cursor.Part.TheVariants.{Place, Value}
 use Rattle.nest_parse.specs.declared.refused.FirstRefused.{FirstRefused}
-use Rattle.nest_parse.specs.declared.refused.FirstRefused.TheVariants.{Form, NoMemory}
+use Rattle.nest_parse.specs.declared.refused.FirstRefused.TheVariants.{Form}
 use Rattle.nest_parse.specs.First.{token, Begins, no_more, one_more, IsOperand, a_number, a_name, a_word, IsLevel}
 use Rattle.nest_parse.specs.Reading.{kind_at, ends, ReadsKinds, ReadsExpr, IsBehindName, IsLiteral}
-use Rattle.nest_parse.proofs.Joins.{no_memory}
 
 number_not : {n m : ℕ} → Number n ≡ Number m → n ≡ m
 number_not e = cc
@@ -190,7 +188,7 @@ word_read {name} {old} {middle} {behind} {new} {place} h b r c =
       ok = λ spot.
           let opens = one_kind b.ok in
           subst (λ ts. IsOperand Value (token (Name name) spot ∷ ts) (expr.Word name place) new) (sym opens.1)
-            (a_word (subst (λ ts. IsLevel 2 Place middle place ts) closes.1 r.ok));
+          (a_word (subst (λ ts. IsLevel 2 Place middle place ts) closes.1 r.ok));
       only = λ e rest x q.
           let w = word_parts (x anywhere) h b.ok q in
           let p = r.only w.0 _ w.2 refl in

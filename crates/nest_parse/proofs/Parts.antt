@@ -1,12 +1,12 @@
 -- The parts of a text: one lemma for each way in which one is read or refused.
-use Rattle.std.proofs.Common.{◌≡◌, ℕ, zero, suc, ◌+◌, ◌<◌, ◌≤◌, Bool, true, false, Option, Some, None, Result, Ok, Err, List, [], ◌∷◌, length, refl, sym, ap, ◌∙◌, subst, IfOk, MatchResult}
-use Rattle.std.specs.Prelude.{not, ◌&&◌, slice_get, ⊤}
+use Rattle.std.proofs.Common.{◌≡◌, ℕ, zero, suc, true, Option, Some, Ok, Err, List, [], ◌∷◌, length, refl, sym, ap, ◌∙◌, subst}
+use Rattle.std.specs.Prelude.{not, ◌&&◌, slice_get}
 use Rattle.nest_syntax.specs.declared.names.Line.{Line}
 use Rattle.nest_syntax.specs.declared.tree.Expr.{Expr}
-use Rattle.nest_syntax.specs.FirstForm.{First, Turns}
+use Rattle.nest_syntax.specs.FirstForm.{Turns}
 use Rattle.nest_lex.specs.declared.token.Mark.TheVariants as mark
 use Rattle.nest_lex.specs.declared.token.Kind.{Kind}
-use Rattle.nest_lex.specs.declared.token.Kind.TheVariants.{Name, Number, Keyword, Mark}
+use Rattle.nest_lex.specs.declared.token.Kind.TheVariants.{Name, Number, Mark}
 use Rattle.nest_lex.specs.declared.token.Token.{Token}
 use Rattle.nest_parse.specs.declared.cursor.Part.TheVariants.{Place, Value}
 use Rattle.nest_parse.specs.declared.text.Declaration.{Declaration}
@@ -14,9 +14,8 @@ use Rattle.nest_parse.specs.declared.text.Header.{Header}
 use Rattle.nest_parse.specs.declared.text.Write.{Write}
 use Rattle.nest_parse.specs.declared.text.Nest.{Nest}
 use Rattle.nest_parse.specs.declared.refused.FirstRefused.{FirstRefused}
-use Rattle.nest_parse.specs.declared.refused.FirstRefused.TheVariants.{Form, NoMemory}
-use Rattle.nest_parse.specs.First.{Begins, no_more, one_more, line_of, operator_of, IsLevel, header_kinds, declaration_kinds, IsHeader, IsDeclaration, IsWrite, AreFirst}
-use Rattle.nest_parse.specs.Reading.{kind_at, is_subscript, is_outside, ends, ReadsKinds, Reads, ReadsExpr, Declares, Heads, Writes, Nests, turns_of}
+use Rattle.nest_parse.specs.First.{Begins, no_more, one_more, line_of, operator_of, IsLevel, header_kinds, declaration_kinds, IsHeader, IsDeclaration, IsWrite}
+use Rattle.nest_parse.specs.Reading.{kind_at, is_subscript, is_outside, ends, ReadsKinds, Reads, ReadsExpr, Declares, Heads, Writes, Nests}
 
 -- where tokens of these kinds stand, the one at this place is of this kind
 pub kind_there : {tokens rest : List Token} {kinds : List Kind} → Begins tokens kinds rest → (at : ℕ) (kind : Kind) → slice_get kinds at ≡ Some kind → kind_at tokens at ≡ Some kind
@@ -111,11 +110,11 @@ not_headed {old} f r = refused (λ h rest is.
 pub head_read : {old new : List Token} {line : Line} {name low high : ℕ} → line ≡ line_of old → Found old name low high
     → ReadsKinds (header_kinds name low high) old new (Ok tt) → Reads Heads old new (Ok (record { line = line; name = name; low = low; high = high }))
 head_read {old} {new} {line} {name} {low} {high} on f r = record {
-  ok = record { line = on; spelled = r.ok };
+  ok = record { on = on; spelled = r.ok };
   only = λ h rest is.
       let same = headed f is in
       let spelled = subst (λ kinds. Begins old kinds rest) (λ i. header_kinds (sym same.0 i) (sym same.1 i) (sym same.2 i)) is.spelled in
-      let on_line = on ∙ sym is.line in
+      let on_line = on ∙ sym is.on in
       (λ i. record { line = on_line i; name = same.0 i; low = same.1 i; high = same.2 i }, same_rest r.ok spelled);
 }
 
@@ -179,8 +178,15 @@ pub write_read : {old middle new : List Token} {line : Line} {array : ℕ} {plac
 write_read {old} {middle} {new} {line} {array} {place} {value} on v r = record {
   ok = record {
     on = on;
-    from_place = v.placed.middle; behind_place = v.middle; from_value = v.behind; behind_value = middle;
-    target = v.placed.target.ok; is_place = v.placed.read.ok; assign = v.assign.ok; is_value = v.read.ok; end = r.ok;
+    from_place = v.placed.middle;
+    behind_place = v.middle;
+    from_value = v.behind;
+    behind_value = middle;
+    target = v.placed.target.ok;
+    is_place = v.placed.read.ok;
+    assign = v.assign.ok;
+    is_value = v.read.ok;
+    end = r.ok;
   };
   only = λ w rest is.
       let on_line = on ∙ sym is.on in
@@ -228,7 +234,7 @@ write_from : {old middle rest : List Token} {declaration : Declaration} {outer i
 write_from {declaration = declaration} {nest = nest} p is =
     let same = same_opening p is in
     subst (λ ts. Writes declaration.array ts nest.write is.0.from_end) (sym same.3)
-      (subst (λ array. Writes array is.0.from_write nest.write is.0.from_end) (λ i. (sym same.0 i).array) is.0.write)
+    (subst (λ array. Writes array is.0.from_write nest.write is.0.from_end) (λ i. (sym same.0 i).array) is.0.write)
 
 pub no_write : {old middle new : List Token} {declaration : Declaration} {outer inner : Header} {fault : FirstRefused} → Opened old middle declaration outer inner
     → Reads (Writes declaration.array) middle new (Err fault) → Reads Nests old new (Err fault)
@@ -253,8 +259,14 @@ pub nest_read : {old middle behind new : List Token} {declaration : Declaration}
 nest_read {old} {middle} {behind} {new} p w r done = record {
   ok = (
     record {
-      from_outer = p.middle; from_inner = p.behind; from_write = middle; from_end = behind;
-      declaration = p.first_read.ok; outer = p.outer_read.ok; inner = p.inner_read.ok; write = w.ok;
+      from_outer = p.middle;
+      from_inner = p.behind;
+      from_write = middle;
+      from_end = behind;
+      declaration = p.first_read.ok;
+      outer = p.outer_read.ok;
+      inner = p.inner_read.ok;
+      write = w.ok;
       end = subst (λ ts. Begins behind (Mark mark.CloseCurly ∷ Mark mark.CloseCurly ∷ []) ts) done r.ok;
     },
     done,

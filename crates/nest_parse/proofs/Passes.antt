@@ -1,11 +1,9 @@
 -- Passing tokens of given kinds, one after another.
-use Rattle.std.proofs.Common.{◌≡◌, ℕ, ◌+◌, ◌<◌, ◌≤◌, Option, Some, None, Result, Ok, Err, List, [], ◌∷◌, length, drop, get_or, refl, sym, subst, drop-cons, arith, IfOk, MatchResult}
-use Rattle.std.specs.Prelude.{slice_get, ⊤}
-use Rattle.nest_lex.specs.declared.token.Spot.{Spot}
+use Rattle.std.proofs.Common.{◌≡◌, ℕ, ◌+◌, ◌≤◌, Ok, Err, List, [], ◌∷◌, length, drop, refl, subst, arith}
 use Rattle.nest_lex.specs.declared.token.Kind.{Kind}
 use Rattle.nest_lex.specs.declared.token.Token.{Token}
 use Rattle.nest_parse.specs.declared.refused.FirstRefused.{FirstRefused}
-use Rattle.nest_parse.specs.First.{token, Begins, no_more, one_more}
+use Rattle.nest_parse.specs.First.{Begins, no_more, one_more}
 use Rattle.nest_parse.specs.Reading.{TakesKind, ReadsKinds}
 
 -- the kinds before `at` are passed: what is left and the kinds that are left make the whole

@@ -1,6 +1,6 @@
 -- The whole text: from the conditions on a nest to those on a program, and one lemma for each way in which it ends.
-use Rattle.std.proofs.Common.{◌≡◌, ℕ, ◌+◌, ◌<◌, ◌≤◌, pos, Bool, true, false, Option, Some, None, Result, Ok, Err, List, [], ◌∷◌, length, refl, sym, ap, ◌∙◌, subst, arith, IfOk, MatchResult}
-use Rattle.std.specs.Prelude.{◌==◌, count_by, IsTrue, ⊤}
+use Rattle.std.proofs.Common.{◌≡◌, ℕ, ◌≤◌, pos, false, Result, Ok, Err, List, [], ◌∷◌, refl, sym, ap, ◌∙◌, subst, arith, IfOk, MatchResult}
+use Rattle.std.specs.Prelude.{◌==◌, count_by, ⊤}
 use Rattle.std.specs.List.{list_any}
 use Rattle.nest_syntax.specs.declared.tree.Expr.{Expr}
 use Rattle.nest_syntax.specs.declared.names.Line.{Line}
@@ -15,15 +15,13 @@ use Rattle.nest_syntax.specs.declared.tree.Stmt.TheVariants as stmt
 use Rattle.nest_syntax.specs.declared.tree.Stmt.TheVariants.{outs-Loop, outs-Write}
 use Rattle.nest_syntax.specs.declared.tree.Loop.{Loop}
 use Rattle.nest_syntax.specs.declared.tree.Program.{Program}
-use Rattle.nest_syntax.specs.FirstForm.{First, Turns, loop_of, IsKept, IsFirstForm, decls_of, regions_of, program_of}
-use Rattle.nest_syntax.specs.Named.{IsWellNamed}
+use Rattle.nest_syntax.specs.FirstForm.{First, Turns, loop_of, IsKept, decls_of, regions_of, program_of}
 use Rattle.nest_lex.specs.declared.token.Token.{Token}
 use Rattle.nest_lex.specs.declared.token.Tokens.{Tokens}
-use Rattle.nest_lex.specs.Text.{AreTokens, AreWellNamed}
 use Rattle.nest_parse.specs.declared.text.Nest.{Nest}
 use Rattle.nest_parse.specs.declared.refused.FirstRefused.{FirstRefused}
-use Rattle.nest_parse.specs.declared.refused.FirstRefused.TheVariants.{Form, NoMemory}
-use Rattle.nest_parse.specs.First.{AreFirst, DerivesFirst, IsFirst, ends_nest, lines_behind}
+use Rattle.nest_parse.specs.declared.refused.FirstRefused.TheVariants.{NoMemory}
+use Rattle.nest_parse.specs.First.{AreFirst, IsAllNest, IsFirst}
 use Rattle.nest_parse.specs.Reading.{Reads, Nests, first_of, is_operator, IsFitting, ReadsTokens, ReadsNest}
 use Rattle.nest_parse.proofs.Counts.{all_operators}
 
@@ -53,20 +51,29 @@ unfit {nest = nest} {fault = fault} e r unfits = subst (λ ts. ReadsNest ts (Err
 -- all conditions from the groups, and back
 pub kept_from : {tokens : List Token} {first : First} → AreFirst tokens first → IsFitting first → count_by is_operator tokens ≤ 12 → IsKept first
 kept_from are fits few = record {
-  array_outer = fits.names.array_outer; array_inner = fits.names.array_inner; outer_inner = fits.names.outer_inner;
-  some_words = fits.some_words; few_words = fits.few_words;
-  outer_low = fits.outer.low_within; outer_high = fits.outer.high_within; inner_low = fits.inner.low_within; inner_high = fits.inner.high_within;
-  place = fits.place; value = fits.value;
+  array_outer = fits.names.array_outer;
+  array_inner = fits.names.array_inner;
+  outer_inner = fits.names.outer_inner;
+  some_words = fits.some_words;
+  few_words = fits.few_words;
+  outer_low = fits.outer.low_within;
+  outer_high = fits.outer.high_within;
+  inner_low = fits.inner.low_within;
+  inner_high = fits.inner.high_within;
+  place = fits.place;
+  value = fits.value;
   few_operators = omega (arith, all_operators are, few);
 }
 
 fits_from : {first : First} → IsKept first → IsFitting first
 fits_from keeps = record {
   names = record { array_outer = keeps.array_outer; array_inner = keeps.array_inner; outer_inner = keeps.outer_inner };
-  some_words = keeps.some_words; few_words = keeps.few_words;
+  some_words = keeps.some_words;
+  few_words = keeps.few_words;
   outer = record { low_within = keeps.outer_low; high_within = keeps.outer_high };
   inner = record { low_within = keeps.inner_low; high_within = keeps.inner_high };
-  place = keeps.place; value = keeps.value;
+  place = keeps.place;
+  value = keeps.value;
 }
 
 few_from : {tokens : List Token} {first : First} → AreFirst tokens first → IsKept first → count_by is_operator tokens ≤ 12
@@ -96,7 +103,7 @@ same_write : {line line' : Line} {array array' : ℕ} {place place' value value'
 same_write {line} {line'} {array} {array'} {place} {place'} {value} {value'} e =
     let s : stmt.Write line array place op.Set value ≡ stmt.Write line' array' place' op.Set value' = cc in
     let f : Stmt-F.Write line array place op.Set value ≡ Stmt-F.Write line' array' place' op.Set value' =
-        sym (outs-Write line array place op.Set value) ∙ ap out-Stmt s ∙ outs-Write line' array' place' op.Set value' in
+    sym (outs-Write line array place op.Set value) ∙ ap out-Stmt s ∙ outs-Write line' array' place' op.Set value' in
     (cc, cc, cc)
 
 -- A program is that of one such data.
@@ -131,10 +138,13 @@ no_nest {tokens = tokens} t n program is =
     n.only (nest_for is.derives.first) here (fits_from keeps) (few_from here keeps)
 
 -- the program
-pub is_first : {text : List ℕ} {tokens : Tokens} {nest : Nest} → list_any (λ b. b == 47) text ≡ false → list_any ends_nest (lines_behind [] text) ≡ false
+pub is_first : {text : List ℕ} {tokens : Tokens} {nest : Nest} → list_any (λ b. b == 47) text ≡ false → IsAllNest text
     → ReadsTokens text (Ok tokens) → ReadsNest tokens.list (Ok nest) → IsFirst text (program_of tokens.names (first_of nest))
-is_first {tokens = tokens} {nest = nest} comment lines t n = record {
-  tokens = tokens; are = t.ok.0; no_comment = comment; all_nest = lines;
+is_first {tokens = tokens} {nest = nest} comment all_nest t n = record {
+  tokens = tokens;
+  are = t.ok.0;
+  no_comment = comment;
+  all_nest = all_nest;
   derives = record { first = first_of nest; spelled = n.ok.0; is = refl };
   form = record { first = first_of nest; kept = kept_from n.ok.0 n.ok.1 n.ok.2; decls = refl; regions = refl };
 }

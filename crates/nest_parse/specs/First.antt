@@ -1,6 +1,6 @@
 -- The grammar of the first form, and the texts of it.
-use Rattle.std.specs.Prelude.{◌≡◌, ℕ, zero, suc, ◌≤◌, pos, Bool, false, ◌==◌, ◌&&◌, ◌||◌, not, nat_eq, Option, Some, None, List, [], ◌∷◌, ◌++◌, length, take, drop, codes, if◌then◌else◌}
-use Rattle.std.specs.List.{list_all, list_any, starts_with}
+use Rattle.std.specs.Prelude.{◌≡◌, ℕ, zero, suc, ◌≤◌, pos, false, ◌==◌, Option, Some, None, List, [], ◌∷◌, length}
+use Rattle.std.specs.List.{list_any}
 use Rattle.nest_syntax.specs.declared.names.Line.{Line}
 use Rattle.nest_syntax.specs.declared.operators.Bin.{Bin}
 use Rattle.nest_syntax.specs.declared.operators.Bin.TheVariants as bin
@@ -15,6 +15,8 @@ use Rattle.nest_lex.specs.declared.token.Kind.{Kind}
 use Rattle.nest_lex.specs.declared.token.Kind.TheVariants.{Name, Number, Keyword, Mark}
 use Rattle.nest_lex.specs.declared.token.Token.{Token}
 use Rattle.nest_lex.specs.declared.token.Tokens.{Tokens}
+use Rattle.nest_lex.specs.declared.input.Marker.TheVariants.{Data, Steps}
+use Rattle.nest_lex.specs.Parts.{NoneBetween}
 use Rattle.nest_lex.specs.Text.{AreTokens}
 use Rattle.nest_parse.specs.declared.cursor.Part.{Part}
 use Rattle.nest_parse.specs.declared.cursor.Part.TheVariants.{Place, Value}
@@ -85,7 +87,7 @@ declaration_kinds array length =
 
 -- A header is on the line of its `for`.
 pub record IsHeader (tokens : List Token) (turns : Turns) (rest : List Token) : Type 0 where
-  pub line : turns.line ≡ line_of tokens
+  pub on : turns.line ≡ line_of tokens
   pub spelled : Begins tokens (header_kinds turns.name turns.low turns.high) rest
 
 -- The declaration is on the line of its `long`.
@@ -125,29 +127,17 @@ pub record DerivesFirst (tokens : Tokens) (program : Program) : Type 0 where
   pub spelled : AreFirst tokens.list first
   pub is : program ≡ program_of tokens.names first
 
--- a space, a tab or a carriage return
-abbrev pub is_space : ℕ → Bool
-is_space b = b == 32 || (b == 9 || b == 13)
-
--- The lines of a text, where the first line has begun with `front`.
-abbrev pub lines_behind : (front text : List ℕ) → List (List ℕ)
-lines_behind front [] = front ∷ []
-lines_behind front (b ∷ text) = if b == 10 then front ∷ lines_behind [] text else lines_behind (front ++ b ∷ []) text
-
--- the line is this word, and behind it nothing but spaces, tabs and carriage returns
-abbrev pub says : List ℕ → List ℕ → Bool
-says word line = starts_with nat_eq line word && list_all is_space (drop (length word) line)
-
--- a line that ends the nest in the whole language
-abbrev pub ends_nest : List ℕ → Bool
-ends_nest line = says (codes "data") line || says (codes "steps") line
+-- No line `data` or `steps` ends the nest before the end of the text.
+pub record IsAllNest (text : List ℕ) : Type 0 where
+  pub no_data : NoneBetween text Data 0 (length text)
+  pub no_steps : NoneBetween text Steps 0 (length text)
 
 -- The text is of the first form, and this is its program: its tokens spell the program, which keeps the conditions, no
--- byte is a `/`, so there is no comment, and no line is `data` or `steps`.
+-- byte is a `/`, so there is no comment, and all of the text is the nest.
 pub record IsFirst (text : List ℕ) (program : Program) : Type 0 where
   pub tokens : Tokens
   pub are : AreTokens text tokens
   pub no_comment : list_any (λ b. b == 47) text ≡ false
-  pub all_nest : list_any ends_nest (lines_behind [] text) ≡ false
+  pub all_nest : IsAllNest text
   pub derives : DerivesFirst tokens program
   pub form : IsFirstForm program

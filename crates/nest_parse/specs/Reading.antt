@@ -7,7 +7,7 @@ use Rattle.nest_syntax.specs.FirstForm.{First, Turns, greatest_bound, is_allowed
 use Rattle.nest_lex.specs.declared.token.Spot.{Spot}
 use Rattle.nest_lex.specs.declared.token.Mark.TheVariants as mark
 use Rattle.nest_lex.specs.declared.token.Kind.{Kind}
-use Rattle.nest_lex.specs.declared.token.Kind.TheVariants.{Name, Number, Keyword, Mark}
+use Rattle.nest_lex.specs.declared.token.Kind.TheVariants.{Name, Mark}
 use Rattle.nest_lex.specs.declared.token.Token.{Token}
 use Rattle.nest_lex.specs.declared.token.Tokens.{Tokens}
 use Rattle.nest_lex.specs.Text.{AreTokens, AreWellNamed}
@@ -18,8 +18,8 @@ use Rattle.nest_parse.specs.declared.text.Header.{Header}
 use Rattle.nest_parse.specs.declared.text.Write.{Write}
 use Rattle.nest_parse.specs.declared.text.Nest.{Nest}
 use Rattle.nest_parse.specs.declared.refused.FirstRefused.{FirstRefused}
-use Rattle.nest_parse.specs.declared.refused.FirstRefused.TheVariants.{Form, NoMemory}
-use Rattle.nest_parse.specs.First.{token, Begins, operator_of, IsOperand, IsLevel, IsDeclaration, IsHeader, IsWrite, AreFirst}
+use Rattle.nest_parse.specs.declared.refused.FirstRefused.TheVariants.{NoMemory}
+use Rattle.nest_parse.specs.First.{token, Begins, operator_of, IsOperand, IsDeclaration, IsHeader, IsWrite, AreFirst}
 
 -- the kind of the token at this place
 abbrev pub kind_at : List Token → ℕ → Option Kind

@@ -18,7 +18,12 @@ const GREATEST: u64 = 9_223_372_036_854_775_807;
 impl<'a> Cursor<'a> {
     /// An expression whose operators bind tighter than those of `depth`.
     #[cycle(expression)]
-    pub(crate) fn level(&mut self, alloc: Global, part: Part, depth: usize) -> Result<Expr, FirstRefused>
+    pub(crate) fn level(
+        &mut self,
+        alloc: Global,
+        part: Part,
+        depth: usize,
+    ) -> Result<Expr, FirstRefused>
         requires { depth ≤ 2 }
         ensures { ReadsExpr (IsLevel depth part) depth self.old self.new result }
     {

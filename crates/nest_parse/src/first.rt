@@ -1,19 +1,27 @@
 //! Texts of the first form.
-ghost use Rattle.std.specs.Prelude.{◌≡◌, ℕ, ◌≤◌, length, IfOk, MatchResult};
+ghost use Rattle.std.specs.Prelude.{◌≡◌, ◌≤◌, ◌↔◌, IsTrue, length, IfOk, MatchResult};
 ghost use Rattle.nest_syntax.specs.declared.tree.Program.{Program};
 ghost use Rattle.nest_syntax.specs.Named.{IsWellNamed};
-ghost use Rattle.nest_parse.specs.First.{IsFirst};
+ghost use Rattle.nest_parse.specs.First.{IsAllNest, IsFirst};
 ghost use Rattle.nest_parse.specs.Reading.{ReadsTokens, ReadsNest};
 
 use crate::build::program;
 use crate::cursor::Cursor;
 use crate::form::{has_few_operators, is_fitting};
-use crate::lines::has_end;
 use crate::refused::FirstRefused;
 use crate::text::Nest;
-use nest_lex::{LexRefused, Token, Tokens, lex};
+use nest_lex::{LexRefused, Token, Tokens, lex, parts};
 use nest_syntax::Program;
 use std::alloc::Global;
+
+/// Whether no line ends the nest before the end of the text.
+#[tactic(auto, using(crate::proofs::WholeNest::ends_early, crate::proofs::WholeNest::ends_last))]
+fn is_all_nest(bytes: &[u8]) -> bool
+    requires { length bytes.now ≤ 33554432 }
+    ensures { IsTrue result ↔ IsAllNest bytes.now }
+{
+    bytes.len() <= parts(bytes).nest_end
+}
 
 /// The tokens of a text.
 fn tokens_of(alloc: Global, bytes: &[u8]) -> Result<Tokens, FirstRefused>
@@ -51,7 +59,7 @@ pub fn parse_first(alloc: Global, bytes: &[u8]) -> Result<Program, FirstRefused>
     ensures only { (p : Program) → IsFirst bytes.now p → MatchResult result (λ r. r ≡ p) (λ e. e ≡ FirstRefused.NoMemory) }
     ensures named { IfOk result (λ p. IsWellNamed p) }
 {
-    if bytes.contains(&b'/') || has_end(bytes) {
+    if bytes.contains(&b'/') || !is_all_nest(bytes) {
         return Err(FirstRefused::Form);
     }
     let Tokens {

@@ -9,7 +9,9 @@ use nest_lex::Token;
 use nest_syntax::{Bin, Expr};
 
 const MOST_OPERATORS: usize = 12;
+
 const MOST_WORDS: u64 = 1_048_576;
+
 const GREATEST_BOUND: u64 = 16_777_216;
 
 /// The three names of a text of the first form.

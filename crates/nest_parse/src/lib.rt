@@ -7,9 +7,11 @@ mod expression;
 mod first;
 mod form;
 mod kinds;
-mod lines;
 mod refused;
 mod text;
 
 pub use first::parse_first;
 pub use refused::FirstRefused;
+
+#[cfg(test)]
+mod tests;

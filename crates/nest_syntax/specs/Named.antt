@@ -1,5 +1,5 @@
 -- Programs whose name numbers are numbers of names.
-use Rattle.std.specs.Prelude.{◌≢◌, ℕ, ◌<◌, ◌^◌, Bool, true, ◌&&◌, nat_lt, IsTrue, List, length, map}
+use Rattle.std.specs.Prelude.{◌≢◌, ℕ, ◌<◌, ◌^◌, Bool, true, ◌&&◌, nat_lt, IsTrue, List, length}
 use Rattle.std.specs.List.{list_all, AllPairs}
 use Rattle.nest_syntax.specs.declared.tree.Expr.{Expr, fold-Expr}
 use Rattle.nest_syntax.specs.declared.tree.Expr.TheOpen.{Expr-F}

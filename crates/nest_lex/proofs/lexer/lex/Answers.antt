@@ -1,6 +1,4 @@
-use Rattle.std.proofs.Common.{◌≡◌}
 use Rattle.std.proofs.lemmas.Result.{err_from_is_err_and}
-use Rattle.nest_lex.specs.Text.{AreTokens, AreWellNamed, IsFault, IsRefusal}
 use Rattle.nest_lex.proofs.OneAnswer.{same_tokens, no_fault, refused_only, refused_fault}
 use Rattle.nest_lex.proofs.lexer.lex.Goals as goal
 

@@ -1,7 +1,6 @@
-use Rattle.std.proofs.Common.{◌≡◌, ◌<◌, ◌++◌, ◌∷◌, [], length, sym, ap, ◌∙◌, arith}
+use Rattle.std.proofs.Common.{◌≡◌, ◌++◌, ◌∷◌, [], sym, ap, ◌∙◌, arith}
 use Rattle.std.specs.List.{position_or_len}
 use Rattle.std.specs.Str.{bytes_eq}
-use Rattle.nest_lex.specs.Text.{with_name}
 use Rattle.nest_lex.proofs.Numbering.{number_seen, seen_known, seen_new, keys_after, place-le}
 use Rattle.nest_lex.proofs.names.number_of_name.Goals as goal
 use Rattle.nest_lex.proofs.names.number_of_name.Goals.{then-number-len+in_ok-from_slice+in_ok-push, else-number-len}

@@ -1,7 +1,6 @@
-use Rattle.std.proofs.Common.{◌≡◌, Ok, Err, List, sym, subst}
+use Rattle.std.proofs.Common.{Ok, Err, refl, sym, subst}
 use Rattle.std.proofs.lemmas.Result.{err_from_is_err_and}
 use Rattle.nest_syntax.specs.Named.{IsWellNamed}
-use Rattle.nest_lex.specs.declared.token.Token.{Token}
 use Rattle.nest_parse.specs.First.{IsFirst}
 use Rattle.nest_parse.specs.Reading.{first_of, ReadsNest}
 use Rattle.nest_parse.proofs.Names.{well_named}
@@ -22,7 +21,7 @@ pub returns-clause-program : goal.returns-clause-program
 returns-clause-program c =
     let nest = subst (λ ts. ReadsNest ts (Ok c.in_ok-nest.nest)) c.as_slice.ensures c.in_ok-nest.ensures in
     if_made (IsFirst c.args.bytes.now) c.program.result c.program.ensures.ok
-      (is_first (sym c.if-contains.ensures.value) (sym c.if-has_end.ensures) c.in_ok-names.ensures nest)
+    (is_first (sym c.if-contains.ensures.value) (c.if-not-is_all_nest.ensures.0 refl) c.in_ok-names.ensures nest)
 
 pub returns-clause-only : goal.returns-clause-only
 returns-clause-only c = λ program is.

@@ -1,4 +1,3 @@
-use Rattle.std.proofs.Common.{◌≡◌}
 use Rattle.nest_parse.proofs.first.tokens_of.Goals as goal
 
 pub returns-in-Err-Fault : goal.returns-in-Err-Fault

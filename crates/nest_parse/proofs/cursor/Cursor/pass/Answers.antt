@@ -1,4 +1,4 @@
-use Rattle.std.proofs.Common.{arith, add-one, drop-cons}
+use Rattle.std.proofs.Common.{add-one, drop-cons}
 use Rattle.std.proofs.lemmas.List.{drop_all}
 use Rattle.std.proofs.lemmas.Result.{err_from_is_err_and}
 use Rattle.nest_lex.specs.declared.token.Kind.TheVariants.{Name}

@@ -1,0 +1,10 @@
+pub mod Rows
+pub mod Sets
+pub mod Nodes
+pub mod Walks
+pub mod Parts
+pub mod Held
+pub mod Room
+pub mod Sound
+pub mod Bodies
+pub mod Clashes
