@@ -1,5 +1,5 @@
 -- The words of a program's arrays, as a caller sees them.
-use Rattle.std.specs.Prelude.{◌≡◌, ℕ, ◌+◌, ◌≤◌, ℤ, pos, FitsSigned, Option, List, length, sum, take, drop, replicate, slice_index_or}
+use Rattle.std.specs.Prelude.{◌≡◌, ℕ, ◌≤◌, ℤ, pos, FitsSigned, Option, List, length, sum, take, drop, replicate, slice_index_or}
 use Rattle.std.specs.Int.{w64}
 use Rattle.std.specs.Option.{option_map, option_map_or}
 use Rattle.nest_syntax.specs.Arrays.{place_of, word_number, word_at, with_word}

@@ -1,4 +1,4 @@
-use Rattle.std.proofs.Common.{rules, arith, ◌≡◌, ◌∙◌, w64, FitsSigned, int_div}
+use Rattle.std.proofs.Common.{arith, ◌≡◌, ◌∙◌, w64, FitsSigned, int_div}
 use Rattle.std.proofs.lemmas.Int.{to_z-of_z}
 use Rattle.std.specs.Int.{int_wrap}
 use Rattle.word_store.proofs.Wrapping.{int_wrap-int_div}

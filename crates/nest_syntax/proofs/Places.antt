@@ -1,8 +1,9 @@
--- Words in a list of words, and the numbers of places. For the crates above.
-use Rattle.std.proofs.Common.{◌≡◌, ◌≢◌, ℕ, zero, suc, ◌+◌, ◌<◌, ◌≤◌, ℤ, pos, List, [], ◌∷◌, length, take, sum, get_or, refl, ap, arith}
+-- Words in a list of words: what a write changes, and which number a place of an array has.
+use Rattle.std.proofs.Common.{◌≡◌, ◌≢◌, ℕ, zero, suc, ◌+◌, ◌<◌, ◌≤◌, ℤ, pos, negsuc, Some, None, nat_lt, if◌then◌else◌, FitsSigned, w64, List, [], ◌∷◌, length, take, sum, get_or, refl, ap, arith}
 use Rattle.std.proofs.lemmas.List.{get_or-set_same, get_or-set_other, get_or-take, length-set, set-set, take-take, length-take-le, ext_get_or}
+use Rattle.std.proofs.lemmas.Bool.Decides.{nat_tests}
 use Rattle.std.proofs.lemmas.List.Sums.{sum_by_more_le}
-use Rattle.nest_syntax.specs.Arrays.{word_number, word_at, with_word}
+use Rattle.nest_syntax.specs.Arrays.{place_in, word_number, word_at, with_word}
 
 -- a word that was written is read
 pub word_at-with_word_same : (words : List ℤ) (n : ℕ) (value : ℤ) → n < length words → word_at (with_word words n value) n ≡ value
@@ -54,3 +55,19 @@ word_number-same sizes array place array' place' there there' inside inside' e =
     let arrays : array ≡ array' = omega arith in
     let starts : sum (take array sizes) ≡ sum (take array' sizes) = ap (λ n. sum (take n sizes)) arrays in
     (arrays, omega arith)
+
+place_in_tested : (size at place : ℕ) → (if nat_lt at size then Some at else None) ≡ Some place → (place < size) × (pos at ≡ pos place)
+place_in_tested size at place e = grind (arith, nat_tests)
+
+-- a place of an array is below its size, and is the subscript
+pub place_in-inside : (size : ℕ) (at : ℤ) (place : ℕ) → place_in size at ≡ Some place → (place < size) × (at ≡ pos place)
+place_in-inside size (pos at) place e = place_in_tested size at place e
+place_in-inside size (negsuc below) place e = cc
+
+-- words stay words where a word is written
+pub words-with_word : (words : List ℤ) (n m : ℕ) (value : ℤ) → ((k : ℕ) → FitsSigned w64 (word_at words k)) → FitsSigned w64 value → FitsSigned w64 (word_at (with_word words n value) m)
+words-with_word [] n m value each fits = each m
+words-with_word (word ∷ words) zero zero value each fits = fits
+words-with_word (word ∷ words) zero (suc m) value each fits = each (suc m)
+words-with_word (word ∷ words) (suc n) zero value each fits = each zero
+words-with_word (word ∷ words) (suc n) (suc m) value each fits = words-with_word words n m value (λ k. each (suc k)) fits

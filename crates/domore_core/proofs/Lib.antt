@@ -1,0 +1,17 @@
+pub mod Guards
+pub mod Seats
+pub mod Tickets
+pub mod Need
+pub mod WaitsLeft
+pub mod Parts
+pub mod Kept
+pub mod Textual
+pub mod Course
+pub mod Finished
+pub mod Runs
+pub mod Progress
+pub mod Ahead
+pub mod Falls
+pub mod Ended
+pub mod Sample
+pub mod Counting

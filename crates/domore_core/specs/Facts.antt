@@ -1,0 +1,111 @@
+-- What the report counts. Each event adds to it; `waits` gives the waits of an iteration by its number.
+use Rattle.std.specs.Prelude.{◌≡◌, ℕ, suc, ◌+◌, Bool, true, false, List, [], ◌∷◌, ◌++◌, map, take, length, count_by, nat_lt}
+use Rattle.nest_syntax.specs.Course.{Purpose, Ordinary, Header}
+use Rattle.nest_syntax.specs.Outcome.{Event, Computes, Drains, Iterates, Closes, Ends, iterations_among}
+use Rattle.settle_law.specs.Courses.{Nest, events}
+use Rattle.domore_core.specs.Waits.{Wait}
+
+-- a wait as the report lists it: iteration `number` waits for iteration `on`. It is crossing where the two belong to
+-- different invocations.
+pub record Listed : Type 0 where
+  pub number : ℕ
+  pub on : ℕ
+  pub crossing : Bool
+
+-- The counts of headers carried out, of iterations, of drains, of waits, and of crossing waits; the first 64 waits, in
+-- the order of iterations and then of workers; and the number of the first iteration of the present invocation.
+pub record Facts : Type 0 where
+  pub invocations : ℕ
+  pub iterations : ℕ
+  pub drains : ℕ
+  pub waits : ℕ
+  pub crossing : ℕ
+  pub listed : List Listed
+  pub first : ℕ
+
+abbrev pub no_facts : Facts
+no_facts = record { invocations = 0; iterations = 0; drains = 0; waits = 0; crossing = 0; listed = []; first = 0 }
+
+-- a header begins an invocation
+abbrev pub computed : Purpose → Facts → Facts
+computed Ordinary facts = facts
+computed Header facts = record facts { invocations = suc facts.invocations; first = facts.iterations }
+
+abbrev pub drained : Facts → Facts
+drained facts = record facts { drains = suc facts.drains }
+
+-- a wait of iteration k, where the first iteration of its invocation is `first`
+abbrev pub listed_at : ℕ → ℕ → Wait → Listed
+listed_at k first w = record { number = k; on = w.number; crossing = nat_lt w.number first }
+
+-- the next iteration, with these waits
+abbrev pub iterated : List Wait → Facts → Facts
+iterated waits facts = let new = map (listed_at facts.iterations facts.first) waits in record facts {
+  iterations = suc facts.iterations;
+  waits = facts.waits + length waits;
+  crossing = facts.crossing + count_by (λ (l : Listed). l.crossing) new;
+  listed = take 64 (facts.listed ++ new);
+}
+
+-- what an event adds that is carried out without a trap
+abbrev pub counted : (ℕ → List Wait) → Facts → Event → Facts
+counted waits facts (Computes purpose) = computed purpose facts
+counted waits facts (Drains purpose) = computed purpose (drained facts)
+counted waits facts (Iterates body scalars) = iterated (waits facts.iterations) facts
+counted waits facts Closes = facts
+counted waits facts Ends = facts
+
+-- the facts of a list of events, each carried out without a trap
+abbrev pub facts_from : (ℕ → List Wait) → Facts → List Event → Facts
+facts_from waits facts [] = facts
+facts_from waits facts (event ∷ others) = facts_from waits (counted waits facts event) others
+
+-- the facts of a nest that doesn't trap: those of all its events
+abbrev pub facts_of : (ℕ → List Wait) → Nest → Facts
+facts_of waits nest = facts_from waits no_facts (events nest)
+
+-- whether an event is the header of an invocation, and whether it is a drain
+abbrev pub begins : Purpose → Bool
+begins Ordinary = false
+begins Header = true
+
+abbrev pub is_header : Event → Bool
+is_header (Computes purpose) = begins purpose
+is_header (Drains purpose) = begins purpose
+is_header (Iterates body scalars) = false
+is_header Closes = false
+is_header Ends = false
+
+abbrev pub is_drain : Event → Bool
+is_drain (Drains purpose) = true
+is_drain (Computes purpose) = false
+is_drain (Iterates body scalars) = false
+is_drain Closes = false
+is_drain Ends = false
+
+-- the first iteration of the present invocation, behind an event before iteration k
+abbrev pub first_behind : Purpose → ℕ → ℕ → ℕ
+first_behind Ordinary k first = first
+first_behind Header k first = k
+
+-- all waits of the iterations among events, in order, from iteration k on
+abbrev pub listed_from : (ℕ → List Wait) → ℕ → ℕ → List Event → List Listed
+listed_from waits k first [] = []
+listed_from waits k first (Computes purpose ∷ others) = listed_from waits k (first_behind purpose k first) others
+listed_from waits k first (Drains purpose ∷ others) = listed_from waits k (first_behind purpose k first) others
+listed_from waits k first (Iterates body scalars ∷ others) = map (listed_at k first) (waits k) ++ listed_from waits (suc k) first others
+listed_from waits k first (Closes ∷ others) = listed_from waits k first others
+listed_from waits k first (Ends ∷ others) = listed_from waits k first others
+
+-- what facts are of a whole list of events
+pub record AreOf (waits_at : ℕ → List Wait) (passed : List Event) (facts : Facts) : Type 0 where
+  pub invocations : facts.invocations ≡ count_by is_header passed
+  pub iterations : facts.iterations ≡ length (iterations_among passed)
+  pub drains : facts.drains ≡ count_by is_drain passed
+  pub waits : facts.waits ≡ length (listed_from waits_at 0 0 passed)
+  pub crossing : facts.crossing ≡ count_by (λ (l : Listed). l.crossing) (listed_from waits_at 0 0 passed)
+  pub listed : facts.listed ≡ take 64 (listed_from waits_at 0 0 passed)
+
+-- The facts of a list of events are counts of it, and the first 64 of all waits.
+abbrev pub FactsCount : Type 0
+FactsCount = (waits : ℕ → List Wait) (passed : List Event) → AreOf waits passed (facts_from waits no_facts passed)

@@ -1,0 +1,27 @@
+//! The meaning of a nest, run in textual order.
+//!
+//! In come a program and its opening words, out goes the outcome that the definitions of `nest_syntax` give them: the
+//! final words, or the place of the first trap.
+#![tactic(auto)]
+
+mod arrays;
+mod bodies;
+mod courses;
+mod events;
+mod expressions;
+mod iterations;
+mod jobs;
+mod outcomes;
+mod plain;
+mod saved;
+mod stops;
+mod values;
+
+pub use arrays::array_of;
+pub use bodies::{TurnTrap, run_body};
+pub use expressions::eval;
+pub use jobs::Job;
+pub use nest_syntax::Place;
+pub use outcomes::Outcome;
+pub use plain::run_plain;
+pub use values::Scalars;

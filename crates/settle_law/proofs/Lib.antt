@@ -1,0 +1,14 @@
+pub mod Members
+pub mod Commuting
+pub mod Makings
+pub mod Extracting
+pub mod Law
+pub mod Push
+pub mod Claims
+pub mod Tasks
+pub mod Turns
+pub mod Reading
+pub mod Nests
+pub mod Cursors
+pub mod Seats
+pub mod Samples
