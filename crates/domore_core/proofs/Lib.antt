@@ -15,3 +15,4 @@ pub mod Falls
 pub mod Ended
 pub mod Sample
 pub mod Counting
+pub mod Free

@@ -8,7 +8,7 @@
 ghost use Rattle.domore_core.specs.Theorems.{HistoriesKeepOrder, HistoriesEndAsNest, FactsAreOfNest, UnfinishedGoOn, EndedHaveNoStep, EndedStay, FinishedIsAllEnded};
 ghost use Rattle.domore_core.specs.Waits.{NeedsAreGreatest};
 ghost use Rattle.domore_core.specs.Facts.{FactsCount};
-ghost use Rattle.domore_core.specs.Invariant.{HistoriesKeepInvariant};
+ghost use Rattle.domore_core.specs.Invariant.{HistoriesKeepInvariant, FinishedWhereFree};
 ghost use Rattle.domore_core.specs.Measure.{StepsFall, HistoriesAreBounded, OpeningIsWithinBound};
 
 /// What an iteration needs of a worker is the greatest lower iteration of that worker whose claims clash with its own.
@@ -19,6 +19,11 @@ pub fn needs_are_greatest()
 /// Each legal history leaves a state with the invariant.
 pub fn histories_keep_invariant<B, C, P>()
     ensures { HistoriesKeepInvariant B C P }
+{}
+
+/// While no trap is kept, all iterations that were handed out are finished exactly where every seat is free.
+pub fn finished_where_free<B, C, P>()
+    ensures { FinishedWhereFree B C P }
 {}
 
 /// Each legal history leaves a trace that replays from the opening words and is in order, and that settles to the words

@@ -61,7 +61,7 @@ some_said text m start stop line =
     omega arith
 
 -- no line says both
-not_both : (line : List ℕ) → Says line (marker_text marker.Data) → Says line (marker_text marker.Steps) → ⊥
+pub not_both : (line : List ℕ) → Says line (marker_text marker.Data) → Says line (marker_text marker.Steps) → ⊥
 not_both line a b =
     let d : get_or (take 4 line) 0 0 ≡ 100 = ap (λ (bs : List ℕ). get_or bs 0 0) a.begins in
     let s : get_or (take 5 line) 0 0 ≡ 115 = ap (λ (bs : List ℕ). get_or bs 0 0) b.begins in

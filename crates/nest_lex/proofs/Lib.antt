@@ -6,6 +6,7 @@ pub mod Tables
 pub mod Words
 pub mod Numbering
 pub mod Reading
+pub mod OneDivision
 pub mod OneReading
 pub mod Written
 pub mod OneAnswer

@@ -1,11 +1,12 @@
 //! Dividing the input into its parts.
-ghost use Rattle.std.specs.Prelude.{◌≡◌, ◌<◌, ◌≤◌, ◌+◌, ℕ, length, MatchOption, IsTrue, ◌↔◌, slice_index};
+ghost use Rattle.std.specs.Prelude.{◌≡◌, ◌<◌, ◌≤◌, ◌+◌, ℕ, List, length, MatchOption, IsTrue, ◌↔◌, slice_index};
 ghost use Rattle.std.specs.List.{list_all};
 ghost use Rattle.nest_lex.specs.Bytes.{is_space as is_space_byte};
 ghost use Rattle.nest_lex.specs.Parts.{Says, IsMarkerLine, NoneBetween, IsParts, behind, marker_text as text_of};
 ghost use Rattle.nest_lex.specs.Markers.{BeginsLine, NoMarker, IsFirstMarker, IsFirstSteps};
 ghost use Rattle.nest_lex.specs.declared.input.Marker.{Marker};
 ghost use Rattle.nest_lex.specs.declared.input.Marker.TheVariants.{Steps};
+ghost use Rattle.nest_lex.specs.declared.input.Parts.{Parts};
 
 use crate::input::{Marker, MarkerLine, Parts};
 use crate::place::{START, spot_after};
@@ -161,3 +162,8 @@ pub fn parts(bytes: &[u8]) -> Parts
         },
     }
 }
+
+/// An input has its parts in one way.
+pub fn one_division()
+    ensures { (text : List ℕ) (p q : Parts) → IsParts text p → IsParts text q → p ≡ q }
+{}

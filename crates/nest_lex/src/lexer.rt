@@ -1,3 +1,4 @@
+//! The tokens of a text.
 ghost use Rattle.std.specs.Prelude.{List, ◌≡◌, ◌≤◌, ◌⊎◌, ℕ, Err, length, IfOk, IfErr, MatchResult};
 ghost use Rattle.nest_lex.specs.Text.{AreTokens, AreWellNamed, IsFault, IsRefusal};
 ghost use Rattle.nest_lex.specs.declared.token.Spot.{Spot};

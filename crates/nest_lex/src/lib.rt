@@ -20,7 +20,7 @@ mod scan;
 mod spelling;
 mod token;
 
-pub use divide::parts;
+pub use divide::{one_division, parts};
 pub use input::Parts;
 pub use lexer::{lex, one_answer};
 pub use refused::{LexKind, LexRefused};

@@ -1,4 +1,4 @@
-ghost use Rattle.std.specs.Prelude.{◌≡◌};
+//! What a token is before its name is numbered.
 
 use crate::token::{Keyword, Mark};
 

@@ -1,3 +1,5 @@
+//! Why a text is refused.
+
 use crate::token::Spot;
 use std::alloc::AllocError;
 use thiserror::Error;

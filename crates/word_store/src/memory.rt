@@ -66,6 +66,13 @@ impl Words {
         self.sizes.len()
     }
 
+    /// How many words each array has, in order.
+    pub fn lengths(&self) -> &[u64]
+        ensures { result.now ≡ self.now.sizes }
+    {
+        self.sizes.as_slice()
+    }
+
     /// The words of an array, in order.
     pub fn array(&self, array: u32) -> &[i64]
         requires { array < length self.now.sizes }
