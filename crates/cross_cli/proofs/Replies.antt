@@ -5,7 +5,9 @@ use Rattle.nest_syntax.specs.declared.names.NoMemory.{NoMemory}
 use Rattle.nest_syntax.specs.declared.tree.Program.{Program}
 use Rattle.nest_io.specs.declared.transfer.TheConstants.{MOST_BYTES}
 use Rattle.nest_parse.specs.First.{IsFirst}
-use Rattle.nest_mean.specs.Job.{Nest}
+use Rattle.nest_mean.specs.Nest.{Nest}
+use Rattle.word_store.specs.Memory.{Memory, zeros}
+use Rattle.nest_syntax.specs.Arrays.{arrays_of, sizes_of}
 use Rattle.cross_cli.specs.declared.status.Status.TheVariants as status
 use Rattle.cross_cli.specs.declared.top.Unanswered.{Unanswered}
 use Rattle.cross_cli.specs.declared.words.Action.{Action}
@@ -14,9 +16,9 @@ use Rattle.cross_cli.specs.Answers.{Answer, refusal, acted, zeros_of, AnswersInp
 use Rattle.cross_cli.specs.Ends.{TakesInput, IsDueTo}
 
 -- the one action, on the job that was made of a program
-pub acted_by : (r : Result Answer NoMemory) (action : Action) (program : Program) (words : List ℤ) (nest : Nest) → nest ≡ record { program = program; words = words } → IfOk r (λ reply. reply ≡ acted Plain nest.program nest.words) → IfOk r (λ reply. reply ≡ acted action program words)
-acted_by (Ok reply) Plain program words nest is h = h ∙ ap (λ (n : Nest). acted Plain n.program n.words) is
-acted_by (Err e) Plain program words nest is h = tt
+pub acted_by : (r : Result Answer NoMemory) (action : Action) (program : Program) (nest : Nest) → nest ≡ record { program = program; opening = zeros (sizes_of (arrays_of program.decls)) } → IfOk r (λ reply. reply ≡ acted Plain nest.program nest.opening.words) → IfOk r (λ reply. reply ≡ acted action program (zeros_of program))
+acted_by (Ok reply) Plain program nest is h = h ∙ ap (λ (n : Nest). acted Plain n.program n.opening.words) is
+acted_by (Err e) Plain program nest is h = tt
 
 -- the answer to a text of the first form
 pub text_answered : (r : Result Answer NoMemory) (action : Action) (input : List ℕ) (program : Program) → length input ≤ MOST_BYTES → IsFirst input program → ((other : Program) → IsFirst input other → program ≡ other) → IfOk r (λ reply. reply ≡ acted action program (zeros_of program)) → IfOk r (λ reply. AnswersInput action input reply)

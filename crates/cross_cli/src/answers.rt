@@ -2,7 +2,7 @@ ghost use Rattle.std.specs.Prelude.{◌≡◌, ◌≤◌, IfOk, length, map, str
 ghost use Rattle.nest_io.specs.declared.transfer.TheConstants.{MOST_BYTES};
 ghost use Rattle.nest_syntax.specs.FirstForm.{IsFirstForm};
 ghost use Rattle.nest_syntax.specs.Arrays.{arrays_of, sizes_of};
-ghost use Rattle.nest_mean.specs.Outcome.{outcome, outcome_of};
+ghost use Rattle.nest_mean.specs.Outcomes.{outcome, as_outcome};
 ghost use Rattle.cross_cli.specs.Answers.{refusal, printed, acted, zeros_of, AnswersInput};
 
 use crate::status::Status;
@@ -64,7 +64,7 @@ fn act(alloc: Global, action: Action, program: Program) -> Result<Reply, NoMemor
 /// The outcome of textual order.
 fn plain(alloc: Global, job: &Job) -> Result<Reply, NoMemory>
     requires { IsFirstForm job.now.program }
-    ensures { IfOk result (λ reply. reply ≡ acted Action.Plain job.now.program job.now.words) }
+    ensures { IfOk result (λ reply. reply ≡ acted Action.Plain job.now.program job.now.opening.words) }
 {
     match run_plain(alloc, job)? {
         Outcome::Done(words) => {
