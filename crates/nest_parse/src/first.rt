@@ -39,6 +39,7 @@ fn tokens_of(alloc: Global, bytes: &[u8]) -> Result<Tokens, FirstRefused>
 fn nest_of(alloc: Global, tokens: &[Token]) -> Result<Nest, FirstRefused>
     ensures { ReadsNest tokens.now result }
 {
+    // Counted before the tree is built, so that a tree is never deep, and its drop neither.
     if !has_few_operators(tokens) {
         return Err(FirstRefused::Form);
     }

@@ -1,4 +1,7 @@
-//! The parser: bytes or tokens come in, the program that they spell goes out.
+//! The parser: bytes come in, the program that they spell goes out.
+//!
+//! `parse_first` reads texts of the first form: what it gives is the program of the bytes, and it refuses exactly the
+//! bytes that aren't of this form. The grammar is `specs/First`, the conditions are those of `nest_syntax`.
 #![tactic(auto)]
 
 mod build;
