@@ -4,6 +4,7 @@ use std::process::Abort;
 use std::test::Fail;
 
 const MIN: i64 = i64::MIN;
+
 const MAX: i64 = i64::MAX;
 
 fn result_of(rt: &impl Abort, op: Bin, left: i64, right: i64) -> Result<i64, Cause> {
@@ -41,7 +42,11 @@ fn operations_wrap_and_trap(rt: HostRuntime) {
         (Bin::Equal, -1, -1, Ok(1)),
         (Bin::NotEqual, -1, -1, Ok(0)),
     ] {
-        assert_eq!(rt; result_of(&rt, op, left, right), wanted, "{op:?} of {left} and {right}");
+        assert_eq!(rt;
+            result_of(&rt, op, left, right),
+            wanted,
+            "{op:?} of {left} and {right}"
+        );
     }
 }
 
@@ -62,7 +67,11 @@ fn unary_operations_and_assignments(rt: HostRuntime) {
         (Op::Shl, 1, 65, Ok(2)),
         (Op::Rem, 7, 0, Err(Cause::Divide)),
     ] {
-        assert_eq!(rt; assign(op, old, value), wanted, "{op:?} on {old} with {value}");
+        assert_eq!(rt;
+            assign(op, old, value),
+            wanted,
+            "{op:?} on {old} with {value}"
+        );
     }
 }
 
@@ -83,7 +92,11 @@ fn turns_of_loops(rt: HostRuntime) {
         (MIN, MAX, 1, true, Err(Cause::Loop)),
         (MAX, MAX, 65536, true, Ok(1)),
     ] {
-        assert_eq!(rt; count_turns(low, high, step, through), wanted, "{low} to {high} by {step}");
+        assert_eq!(rt;
+            count_turns(low, high, step, through),
+            wanted,
+            "{low} to {high} by {step}"
+        );
     }
     assert_eq!(rt; value_in_turn(-5, 3, 4), 7);
 }
@@ -103,9 +116,17 @@ fn words_are_read_and_written_within_their_arrays(rt: HostRuntime) -> Result<(),
         (2, MAX, 34, false),
     ] {
         assert!(rt; array < 3);
-        assert_eq!(rt; words.store(array, place, value), is_inside, "place {place} of {array}");
+        assert_eq!(rt;
+            words.store(array, place, value),
+            is_inside,
+            "place {place} of {array}"
+        );
         let wanted = if is_inside { Some(value) } else { None };
-        assert_eq!(rt; words.load(array, place), wanted, "place {place} of {array}");
+        assert_eq!(rt;
+            words.load(array, place),
+            wanted,
+            "place {place} of {array}"
+        );
     }
     let copied = words.copy(rt.alloc())?;
     assert!(rt; words.store(1, 0, 99));

@@ -12,8 +12,8 @@ returns c =
     let by = to_z-of_z w64 c.args.by c.ranges.by in
     let count : c.shift_count.result ≡ word.shift_count c.args.by = c.shift_count.ensures ∙ ap word.shift_count by in
     let shifted : c.wrapping_shl.result ≡ word.wrap (c.args.left *ℤ pos (2 ^ word.shift_count c.args.by)) =
-        c.wrapping_shl.ensures
-        ∙ ap (λ a. int_shl w64 a (c.shift_count.result % 64)) left
-        ∙ ap (λ k. int_shl w64 c.args.left (k % 64)) count
-        ∙ int_wrap-int_shl c.args.left c.args.by c.ranges.left in
+    c.wrapping_shl.ensures
+    ∙ ap (λ a. int_shl w64 a (c.shift_count.result % 64)) left
+    ∙ ap (λ k. int_shl w64 c.args.left (k % 64)) count
+    ∙ int_wrap-int_shl c.args.left c.args.by c.ranges.left in
     ap Ok (sym (to_z-of_z w64 c.wrapping_shl.result fits ∙ shifted))
