@@ -5,6 +5,7 @@
 
 mod answers;
 mod laws;
+mod report;
 mod status;
 #[cfg(test)]
 mod tests;
