@@ -48,11 +48,11 @@ module _ (words : List (List ℕ)) (source source' sink sink' : Option (List ℕ
   pub ends_written : (s : Status) → IsDue words source source' answer
       → (s ≢ status.WriteFault → (s ≡ answer.status) × Appends sink sink' answer.bytes)
       → (s ≡ status.WriteFault → answer.status ≢ status.WriteFault → AppendsPart sink sink' answer.bytes × ((room : ℕ) → HasRoom room → room < length answer.bytes))
-      → Ends words source source' sink sink' HasRoom s
-  ends_written status.Done due written cut = let w = written (λ e. cc) in (answer, due, sym w.0, w.1)
-  ends_written status.Trapped due written cut = let w = written (λ e. cc) in (answer, due, sym w.0, w.1)
-  ends_written status.WordsRefused due written cut = let w = written (λ e. cc) in (answer, due, sym w.0, w.1)
-  ends_written status.TextRefused due written cut = let w = written (λ e. cc) in (answer, due, sym w.0, w.1)
+      → Ends words source source' sink sink' HasRoom s answer.history
+  ends_written status.Done due written cut = let w = written (λ e. cc) in (answer, due, sym w.0, refl, w.1)
+  ends_written status.Trapped due written cut = let w = written (λ e. cc) in (answer, due, sym w.0, refl, w.1)
+  ends_written status.WordsRefused due written cut = let w = written (λ e. cc) in (answer, due, sym w.0, refl, w.1)
+  ends_written status.TextRefused due written cut = let w = written (λ e. cc) in (answer, due, sym w.0, refl, w.1)
   ends_written status.ReadFault due written cut = absurd (subst IsAnswering (sym (written (λ e. cc)).0) (due_answers (action_of words) source source' answer due))
   ends_written status.NoMemory due written cut = absurd (subst IsAnswering (sym (written (λ e. cc)).0) (due_answers (action_of words) source source' answer due))
-  ends_written status.WriteFault due written cut = let c = cut refl (λ e. subst IsAnswering e (due_answers (action_of words) source source' answer due)) in (answer, due, c.0, c.1)
+  ends_written status.WriteFault due written cut = let c = cut refl (λ e. subst IsAnswering e (due_answers (action_of words) source source' answer due)) in (answer, due, refl, c.0, c.1)

@@ -11,18 +11,20 @@ use Rattle.cross_cli.specs.declared.status.Status.TheVariants as status
 use Rattle.cross_cli.specs.declared.words.Action.{Action}
 use Rattle.cross_cli.specs.declared.words.Action.TheVariants.{Plain}
 
+-- the status, the bytes, and the steps that an engine made
 pub record Answer : Type 0 where
   pub status : Status
   pub bytes : List ℕ
+  pub history : List ℕ
 
 -- the line of a refusal
 abbrev pub refusal : Status → List ℕ → Answer
-refusal status reason = record { status = status; bytes = codes "refused: " ++ reason ++ 10 ∷ [] }
+refusal status reason = record { status = status; bytes = codes "refused: " ++ reason ++ 10 ∷ []; history = [] }
 
 -- the outcome of a program as it is printed: the final arrays, or the trap
 abbrev pub printed : Program → Ending → Answer
-printed program (Done words) = record { status = status.Done; bytes = array_lines program.names (record { sizes = sizes_of (arrays_of program.decls); words = words }) 0 program.decls }
-printed program (TrappedAt place) = record { status = status.Trapped; bytes = trap_line place }
+printed program (Done words) = record { status = status.Done; bytes = array_lines program.names (record { sizes = sizes_of (arrays_of program.decls); words = words }) 0 program.decls; history = [] }
+printed program (TrappedAt place) = record { status = status.Trapped; bytes = trap_line place; history = [] }
 
 -- what an action answers to a program on these opening words
 abbrev pub acted : Action → Program → List ℤ → Answer

@@ -1,5 +1,5 @@
 -- How a call ends, over what its source tells of the bytes to come and its sink of the bytes written.
-use Rattle.std.specs.Prelude.{◌≡◌, ℕ, ◌≤◌, ◌<◌, Option, Some, None, List, codes, length}
+use Rattle.std.specs.Prelude.{◌≡◌, ℕ, ◌≤◌, ◌<◌, Option, Some, None, List, [], codes, length}
 use Rattle.std.specs.Io.KnownBytes.{Keeps, Consumes, Appends, IsAtEnd}
 use Rattle.nest_io.specs.Stream.{AppendsPart}
 use Rattle.nest_io.specs.declared.transfer.TheConstants.{MOST_BYTES}
@@ -24,20 +24,22 @@ IsDueTo (Some action) old new answer = (input : List ℕ) × TakesInput old new 
 abbrev pub IsDue : List (List ℕ) → Option (List ℕ) → Option (List ℕ) → Answer → Type 0
 IsDue words old new answer = IsDueTo (action_of words) old new answer
 
--- the answer that is due has this status and was written, all of it
-abbrev pub IsWritten : List (List ℕ) → (source source' sink sink' : Option (List ℕ)) → Status → Type 0
-IsWritten words source source' sink sink' status = (answer : Answer) × IsDue words source source' answer × (answer.status ≡ status) × Appends sink sink' answer.bytes
+-- the answer that is due has this status and these steps, and was written, all of it
+abbrev pub IsWritten : List (List ℕ) → (source source' sink sink' : Option (List ℕ)) → Status → List ℕ → Type 0
+IsWritten words source source' sink sink' status history = (answer : Answer) × IsDue words source source' answer × (answer.status ≡ status) × (answer.history ≡ history) × Appends sink sink' answer.bytes
 
--- A proper prefix of the answer that is due was written, into a sink that hadn't surely room for all of it.
-abbrev pub IsCut : List (List ℕ) → (source source' sink sink' : Option (List ℕ)) → (ℕ → Type 0) → Type 0
-IsCut words source source' sink sink' HasRoom = (answer : Answer) × IsDue words source source' answer × AppendsPart sink sink' answer.bytes × ((room : ℕ) → HasRoom room → room < length answer.bytes)
+-- A proper prefix of the answer that is due was written, into a sink that hadn't surely room for all of it. Its steps
+-- were made.
+abbrev pub IsCut : List (List ℕ) → (source source' sink sink' : Option (List ℕ)) → (ℕ → Type 0) → List ℕ → Type 0
+IsCut words source source' sink sink' HasRoom history = (answer : Answer) × IsDue words source source' answer × (answer.history ≡ history) × AppendsPart sink sink' answer.bytes × ((room : ℕ) → HasRoom room → room < length answer.bytes)
 
--- How a call with these words ends with this status. A source or a sink that doesn't tell leaves its part open.
-abbrev pub Ends : List (List ℕ) → (source source' sink sink' : Option (List ℕ)) → (ℕ → Type 0) → Status → Type 0
-Ends words source source' sink sink' HasRoom status.Done = IsWritten words source source' sink sink' status.Done
-Ends words source source' sink sink' HasRoom status.Trapped = IsWritten words source source' sink sink' status.Trapped
-Ends words source source' sink sink' HasRoom status.WordsRefused = IsWritten words source source' sink sink' status.WordsRefused
-Ends words source source' sink sink' HasRoom status.TextRefused = IsWritten words source source' sink sink' status.TextRefused
-Ends words source source' sink sink' HasRoom status.ReadFault = Keeps sink sink'
-Ends words source source' sink sink' HasRoom status.WriteFault = IsCut words source source' sink sink' HasRoom
-Ends words source source' sink sink' HasRoom status.NoMemory = Keeps sink sink'
+-- How a call with these words ends with this status and this history. A source or a sink that doesn't tell leaves its
+-- part open.
+abbrev pub Ends : List (List ℕ) → (source source' sink sink' : Option (List ℕ)) → (ℕ → Type 0) → Status → List ℕ → Type 0
+Ends words source source' sink sink' HasRoom status.Done history = IsWritten words source source' sink sink' status.Done history
+Ends words source source' sink sink' HasRoom status.Trapped history = IsWritten words source source' sink sink' status.Trapped history
+Ends words source source' sink sink' HasRoom status.WordsRefused history = IsWritten words source source' sink sink' status.WordsRefused history
+Ends words source source' sink sink' HasRoom status.TextRefused history = IsWritten words source source' sink sink' status.TextRefused history
+Ends words source source' sink sink' HasRoom status.ReadFault history = Keeps sink sink' × (history ≡ [])
+Ends words source source' sink sink' HasRoom status.WriteFault history = IsCut words source source' sink sink' HasRoom history
+Ends words source source' sink sink' HasRoom status.NoMemory history = Keeps sink sink' × (history ≡ [])

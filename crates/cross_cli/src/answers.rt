@@ -14,11 +14,12 @@ use nest_syntax::{NoMemory, Program};
 use std::alloc::Global;
 use std::marker::Model;
 
-/// What is due: a status and the bytes to print.
+/// What is due: a status, the bytes to print, and the steps that an engine made.
 #[derive(Drop)]
 pub struct Reply {
     pub status: Status,
     pub text: Vec<u8>,
+    pub history: Vec<u8>,
 }
 
 impl Model for Reply {
@@ -26,7 +27,7 @@ impl Model for Reply {
 
     ghost Value = { Answer };
 
-    ghost view = { λ r. record { status = r.status; bytes = r.text.items } };
+    ghost view = { λ r. record { status = r.status; bytes = r.text.items; history = r.history.items } };
 }
 
 /// The line of a refusal.
@@ -36,7 +37,11 @@ pub fn refusal(alloc: Global, status: Status, reason: &[u8]) -> Result<Reply, No
     let mut text = Vec::from_slice(alloc, b"refused: ")?;
     text.extend_from_slice(reason)?;
     text.push(b'\n')?;
-    Ok(Reply { status, text })
+    Ok(Reply {
+        status,
+        text,
+        history: Vec::new(alloc),
+    })
 }
 
 /// What an action answers to an input.
@@ -78,6 +83,7 @@ fn plain(alloc: Global, job: &Job) -> Result<Reply, NoMemory>
             Ok(Reply {
                 status: Status::Done,
                 text,
+                history: Vec::new(alloc),
             })
         }
         Outcome::Trapped(place) => {
@@ -85,6 +91,7 @@ fn plain(alloc: Global, job: &Job) -> Result<Reply, NoMemory>
             Ok(Reply {
                 status: Status::Trapped,
                 text,
+                history: Vec::new(alloc),
             })
         }
     }

@@ -26,8 +26,7 @@ pub fn cross_quiet<S: Source, K: Sink>(
     source: &mut S,
     sink: &mut K,
 ) -> Ended
-    ensures ends { Ends (map string_bytes words.now) (S.left source.old) (S.left source.new) (K.written sink.old) (K.written sink.new) (K.has_room sink.old) result.status }
-    ensures history { result.history.items ≡ [] }
+    ensures ends { Ends (map string_bytes words.now) (S.left source.old) (S.left source.new) (K.written sink.old) (K.written sink.new) (K.has_room sink.old) result.status result.history.items }
 
     // A fault is told only where a count rose, and where none is told the counts are as they were.
     ensures read_fault { result.status ≡ Status.ReadFault → HasRisen (S.faults source.old) (S.faults source.new) }
@@ -36,11 +35,21 @@ pub fn cross_quiet<S: Source, K: Sink>(
     ensures no_write_fault { result.status ≢ Status.WriteFault → K.faults sink.new ≡ K.faults sink.old }
     ensures sure { S.never_fails source.old → result.status ≢ Status.ReadFault }
 {
-    let status = match answer(alloc, words, source) {
-        Ok(reply) => write(&reply, sink),
-        Err(Unanswered::Read) => Status::ReadFault,
-        Err(Unanswered::NoMemory) => Status::NoMemory,
-    };
+    match answer(alloc, words, source) {
+        Ok(reply) => {
+            let status = write(&reply, sink);
+            let Reply { history, .. } = reply;
+            Ended { status, history }
+        }
+        Err(Unanswered::Read) => ended_early(alloc, Status::ReadFault),
+        Err(Unanswered::NoMemory) => ended_early(alloc, Status::NoMemory),
+    }
+}
+
+fn ended_early(alloc: Global, status: Status) -> Ended
+    ensures status { result.status ≡ status }
+    ensures history { result.history.items ≡ [] }
+{
     Ended {
         status,
         history: Vec::new(alloc),

@@ -1,11 +1,8 @@
-use Rattle.std.proofs.Common.{map, string_bytes}
-use Rattle.cross_cli.proofs.Written.{ends_written, kept}
+use Rattle.std.proofs.Common.{map, string_bytes, ap}
+use Rattle.cross_cli.specs.Answers.{Answer}
+use Rattle.cross_cli.proofs.Written.{ends_written}
 use Rattle.cross_cli.proofs.top.cross_quiet.Goals as goal
-use Rattle.cross_cli.proofs.top.cross_quiet.Goals.{in-Ok, in-Err-Read, in-Err-NoMemory}
 
-pub returns-clause-ends : goal.returns-clause-ends
-returns-clause-ends g c = elim c.match-answer.branch [
-  | in-Ok w ↦ rw (w.status-is, w.sink-is) (ends_written (map string_bytes c.args.words.now) (g.S.Source.left c.args.source.now) (g.S.Source.left c.answer.new.source) _ _ _ _ w.write-status.result w.in-Ok.ensures.due w.write-status.ensures.written w.write-status.ensures.cut)
-  | in-Err-Read w ↦ rw (w.status-is, w.sink-is) (kept _)
-  | in-Err-NoMemory w ↦ rw (w.status-is, w.sink-is) (kept _)
-]
+pub returns-in-Ok-clause-ends : goal.returns-in-Ok-clause-ends
+returns-in-Ok-clause-ends g c = rw (ap (λ (a : Answer). a.history) c.reply.view_is)
+    (ends_written (map string_bytes c.args.words.now) (g.S.Source.left c.args.source.now) (g.S.Source.left c.answer.new.source) _ _ _ _ c.write-status.result c.in-Ok.ensures.due c.write-status.ensures.written c.write-status.ensures.cut)
