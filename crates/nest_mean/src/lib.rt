@@ -1,0 +1,6 @@
+//! A program with its opening words.
+#![tactic(auto)]
+
+mod jobs;
+
+pub use jobs::Job;

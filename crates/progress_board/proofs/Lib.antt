@@ -1,0 +1,4 @@
+pub mod Runs
+pub mod Rotation
+pub mod Measures
+pub mod Legal

@@ -1,0 +1,4 @@
+pub mod Options
+pub mod Actors
+pub mod Runs
+pub mod Rotation

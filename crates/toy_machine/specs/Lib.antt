@@ -1,0 +1,5 @@
+pub mod State
+pub mod Tokens
+pub mod Kept
+pub mod Guards
+pub mod Laws

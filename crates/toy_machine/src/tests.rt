@@ -1,0 +1,164 @@
+ghost use Rattle.std.specs.Prelude.{◌≡◌, ◌≤◌};
+ghost use Rattle.progress_board.specs.Options.{IsInRange};
+
+use crate::relay::Relay;
+use lone_crew::lone_run;
+use nest_mean::Job;
+use nest_syntax::{NoMemory, Program};
+use progress_board::{Ask, Ending, Engine, Given, Machine, Options, Row, Sign, Work};
+use sqlite_items::Items;
+use std::alloc::Global;
+use std::process::Abort;
+use std::test::Fail;
+use word_store::Words;
+
+fn job(rt: &impl Abort, alloc: Global) -> Result<Job, NoMemory> {
+    let program = Program {
+        names: Items::new(alloc),
+        decls: Items::new(alloc),
+        regions: Items::new(alloc),
+    };
+    let words = Words::zeros(alloc, &[])?;
+    let job = Job::new(program, words);
+    assert!(rt; job.is_some());
+    Ok(job.unwrap())
+}
+
+fn options(workers: u8, queue: u16) -> Options
+    ensures workers { result.workers ≡ workers }
+    ensures allowed { (1 ≤ workers) → (workers ≤ 8) → (1 ≤ queue) → (queue ≤ 1024) → IsInRange result }
+{
+    Options {
+        engine: Engine::Domore,
+        workers,
+        queue,
+        sign: Sign::Range,
+        segment: 16,
+        distance: 4,
+    }
+}
+
+fn open(rt: &impl Abort, alloc: Global, workers: u8, queue: u16) -> Result<Relay, NoMemory> {
+    assert!(rt; workers >= 1);
+    assert!(rt; workers <= 8);
+    assert!(rt; queue >= 1);
+    assert!(rt; queue <= 1024);
+    Ok(Relay::open(job(rt, alloc)?, options(workers, queue)))
+}
+
+fn ask<M: Machine>(rt: &impl Abort, machine: &M, actor: u8) -> Ask {
+    let options = *machine.options();
+    assert!(rt; actor as u16 <= options.workers as u16 + 1);
+    machine.ask(actor)
+}
+
+fn give<M: Machine>(rt: &impl Abort, machine: &mut M, actor: u8, row: Row) -> Option<u64> {
+    let options = *machine.options();
+    assert!(rt; actor as u16 <= options.workers as u16 + 1);
+    match machine.give(actor, Given::Turn(row)) {
+        Ok(made) => {
+            assert_eq!(rt; made.row, row);
+            Some(made.number)
+        }
+        Err(_) => None,
+    }
+}
+
+// Makes the steps of a history on a machine, each of which has to be enabled.
+fn make_all<M: Machine>(rt: &impl Abort, machine: &mut M, history: &[u8]) {
+    for actor in history {
+        let answer = ask(rt, machine, *actor);
+        assert!(rt; answer != Ask::Ended, "at {actor}");
+        assert!(rt; answer != Ask::NotYet, "at {actor}");
+        if let Ask::Ready(Work::Turn(row)) = answer {
+            assert!(rt; give(rt, machine, *actor, row).is_some(), "at {actor}");
+        }
+    }
+}
+
+// Workers, the room of a queue, the schedule, and the steps, found by hand.
+#[test]
+fn the_rotation_goes_on_behind_the_schedule(rt: HostRuntime) -> Result<(), Fail> {
+    let cases: [(u8, u16, &[u8], &[u8]); 5] = [
+        (2, 2, &[], &[2, 0, 2, 1, 2]),
+        (2, 2, &[2, 2, 2, 9, 3, 1, 0, 1], &[2, 2, 2, 0, 1]),
+        (1, 1, &[], &[1, 0, 1]),
+        (3, 1, &[3, 3], &[3, 3, 0]),
+        (2, 1, &[0, 7, 255, 3], &[2, 0, 2]),
+    ];
+    for (workers, queue, schedule, wanted) in cases {
+        let mut machine = open(&rt, rt.alloc(), workers, queue)?;
+        let mut history = Vec::new(rt.alloc());
+        lone_run(&mut machine, schedule, &mut history)?;
+        assert_eq!(rt; history.as_slice(), wanted, "{workers} workers, room {queue}");
+        assert!(rt; machine.finished());
+        assert_eq!(rt; machine.ending(), Ending::Done);
+
+        // A finished machine makes no step more.
+        lone_run(&mut machine, schedule, &mut history)?;
+        assert_eq!(rt; history.as_slice(), wanted, "{workers} workers, room {queue}");
+
+        let mut again = open(&rt, rt.alloc(), workers, queue)?;
+        make_all(&rt, &mut again, wanted);
+        assert!(rt; again.finished());
+    }
+    Ok(())
+}
+
+// The steps are appended to what the history has. Where memory runs out, the steps that were made are in it, and the
+// run is taken up again.
+#[test]
+fn a_history_agrees_with_its_machine(rt: HostRuntime) -> Result<(), Fail> {
+    let mut machine = open(&rt, rt.alloc(), 2, 40)?;
+    let mut history = Vec::new(rt.alloc());
+    while lone_run(&mut machine, &[2, 2], &mut history).is_err() {
+        let mut again = open(&rt, rt.alloc(), 2, 40)?;
+        make_all(&rt, &mut again, history.as_slice());
+        assert!(rt; !again.finished());
+    }
+    let mut again = open(&rt, rt.alloc(), 2, 40)?;
+    make_all(&rt, &mut again, history.as_slice());
+    assert!(rt; again.finished());
+    assert_eq!(rt; history.len(), 81);
+    Ok(())
+}
+
+// Behind `reserve` a run takes no memory.
+#[test]
+fn reserved_steps_take_no_memory(rt: HostRuntime) -> Result<(), Fail> {
+    let mut machine = open(&rt, rt.alloc(), 8, 3)?;
+    let mut history = Vec::new(rt.alloc());
+    history.reserve(7)?;
+    let capacity = history.capacity();
+    assert!(rt; lone_run(&mut machine, &[], &mut history).is_ok());
+    assert_eq!(rt; history.len(), 7);
+    assert_eq!(rt; history.capacity(), capacity);
+    Ok(())
+}
+
+#[test]
+fn a_machine_answers_its_actors(rt: HostRuntime) -> Result<(), Fail> {
+    let mut machine = open(&rt, rt.alloc(), 2, 1)?;
+    assert_eq!(rt; *machine.options(), options(2, 1));
+    assert_eq!(rt; machine.job().words().arrays(), 0);
+    assert_eq!(rt; machine.words().arrays(), 0);
+    assert_eq!(rt; machine.facts().options, options(2, 1));
+    assert_eq!(rt; machine.facts().waits, 0);
+    assert_eq!(rt; machine.ending(), Ending::Unfinished);
+
+    assert_eq!(rt; ask(&rt, &machine, 0), Ask::NotYet);
+    assert_eq!(rt; ask(&rt, &machine, 2), Ask::Ready(Work::Turn(Row::Dispatch)));
+    assert_eq!(rt; ask(&rt, &machine, 3), Ask::Ended);
+
+    // What differs from the answer changes nothing.
+    assert_eq!(rt; give(&rt, &mut machine, 2, Row::Halt), None);
+    assert_eq!(rt; give(&rt, &mut machine, 0, Row::Take), None);
+    assert_eq!(rt; give(&rt, &mut machine, 3, Row::Check), None);
+    assert_eq!(rt; give(&rt, &mut machine, 2, Row::Dispatch), Some(0));
+    assert_eq!(rt; ask(&rt, &machine, 1), Ask::NotYet);
+    assert_eq!(rt; give(&rt, &mut machine, 0, Row::Take), Some(0));
+    assert_eq!(rt; give(&rt, &mut machine, 2, Row::Halt), Some(1));
+    assert_eq!(rt; ask(&rt, &machine, 1), Ask::Ended);
+    assert!(rt; machine.finished());
+    Ok(())
+}
