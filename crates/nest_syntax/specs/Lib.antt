@@ -5,3 +5,4 @@ pub mod Turn
 pub mod Reads
 pub mod Course
 pub mod Outcome
+pub mod FirstForm

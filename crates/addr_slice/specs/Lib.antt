@@ -1,0 +1,5 @@
+pub mod Claims
+pub mod Walk
+pub mod Iteration
+pub mod Within
+pub mod WordSet

@@ -1,0 +1,27 @@
+-- Sets of numbers as bits: number n is bit `n % 64` of row `n / 64`.
+use Rattle.std.specs.Prelude.{◌≡◌, ℕ, ◌+◌, ◌*◌, ◌/◌, ◌%◌, ◌≤◌, ◌<◌, Bool, true, false, ◌==◌, nat_lt, List, length, map, slice_index}
+use Rattle.std.specs.Int.{bit_at}
+use Rattle.std.specs.List.{range_with_len}
+
+-- whether a bit of a row is set
+abbrev pub has_bit : ℕ → ℕ → Bool
+has_bit row bit = bit_at row bit == 1
+
+-- whether a number is in the rows
+abbrev pub in_rows : List ℕ → ℕ → Bool
+in_rows rows n = has_bit (slice_index rows (n / 64)) (n % 64)
+
+-- a flag for each number below `count`
+abbrev pub flags_of : ℕ → List ℕ → List Bool
+flags_of count rows = map (in_rows rows) (range_with_len 0 count)
+
+-- What holds of a set: there is a row for each number below `count`, no number from `count` on is in it, and the summary
+-- has a bit for each row, set exactly where the row isn't 0.
+pub record IsSummed (count : ℕ) (rows summary : List ℕ) : Type 0 where
+  pub few : count ≤ 1048576
+  pub few_rows : length rows ≤ 16384
+  pub few_bits : length summary ≤ 16384
+  pub a_row_each : count ≤ 64 * length rows
+  pub a_bit_each : length rows ≤ 64 * length summary
+  pub none_behind : (n : ℕ) → count ≤ n → in_rows rows n ≡ false
+  pub exact : (row : ℕ) → in_rows summary row ≡ nat_lt 0 (slice_index rows row)

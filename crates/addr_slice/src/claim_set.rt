@@ -1,0 +1,115 @@
+ghost use Rattle.std.specs.Prelude.{◌≡◌, ◌<◌, ◌≤◌, ◌↔◌, IsTrue, IfOk, IfSome, sum};
+ghost use Rattle.word_store.specs.Memory.{most_words};
+ghost use Rattle.addr_slice.specs.Claims.{words_of, has, is_claimed, no_claims, with_claim, IsNext, Clash};
+
+use crate::word_set::WordSet;
+use nest_syntax::NoMemory;
+use std::alloc::Global;
+use std::marker::Model;
+
+/// A set of claims: words, each for reading or for writing or for both. Words are numbered from 0 over all arrays of a
+/// program, in order of declaration. No call but `with_room` takes memory.
+#[derive(Debug, Drop)]
+pub struct Claims {
+    reads: WordSet,
+    writes: WordSet,
+}
+
+impl Model for Claims {
+    ghost use Rattle.std.specs.Prelude.{◌≡◌, ◌≤◌, length};
+    ghost use Rattle.addr_slice.specs.Claims.{Claimed, AreEven};
+
+    ghost Value = { Claimed };
+
+    ghost view = { λ c. record { reads = c.reads; writes = c.writes } };
+
+    ghost invariant = { λ c. AreEven c.reads c.writes };
+}
+
+impl Claims {
+    /// No claim, with room for the words of arrays of these lengths, at most 1,048,576 together. Costs as many bits.
+    pub fn with_room(alloc: Global, lengths: &[u64]) -> Result<Claims, NoMemory>
+        requires { sum lengths.now ≤ most_words }
+        ensures { IfOk result (λ made. made ≡ no_claims (sum lengths.now)) }
+    {
+        let words = lengths.iter().sum::<u64>() as usize;
+        Ok(Claims {
+            reads: WordSet::empty(alloc, words)?,
+            writes: WordSet::empty(alloc, words)?,
+        })
+    }
+
+    /// How many words there is room for.
+    pub fn words(&self) -> usize
+        ensures words { result ≡ words_of self.now }
+        ensures few { words_of self.now ≤ most_words }
+    {
+        self.reads.len()
+    }
+
+    /// Whether a word is claimed for writing, or else for reading. A word that there is no room for isn't. A constant
+    /// cost.
+    pub fn has(&self, word: u32, write: bool) -> bool
+        ensures { result ≡ has self.now word write }
+    {
+        if write {
+            self.writes.has(word as usize)
+        } else {
+            self.reads.has(word as usize)
+        }
+    }
+
+    /// The least word not below the given one that is claimed for reading or for writing. None comes exactly where there
+    /// is none. It passes 4,096 words at a time where none is claimed; a walk over all claimed words costs as much as
+    /// they are, and one step for each 4,096 words of the program.
+    pub fn next_from(&self, word: u32) -> Option<u32>
+        ensures next { IsNext (is_claimed self.now) word result }
+        ensures within { IfSome result (λ next. next < words_of self.now) }
+        ensures few { words_of self.now ≤ most_words }
+    {
+        let read = self.reads.next_from(word as usize);
+        let write = self.writes.next_from(word as usize);
+        match (read, write) {
+            (Some(read), Some(write)) => Some(read.min(write) as u32),
+            (Some(read), None) => Some(read as u32),
+            (None, Some(write)) => Some(write as u32),
+            (None, None) => None,
+        }
+    }
+
+    /// Claims a word that there is room for, for writing or for reading. A constant cost.
+    pub fn add(&mut self, word: u32, write: bool)
+        requires { word < words_of self.old }
+        ensures { self.new ≡ with_claim self.old word write }
+    {
+        if write {
+            self.writes.insert(word as usize);
+        } else {
+            self.reads.insert(word as usize);
+        }
+    }
+
+    /// Forgets all claims. Costs as much as there are, and one step for each 4,096 words of the program.
+    pub fn clear(&mut self)
+        ensures { self.new ≡ no_claims (words_of self.old) }
+    {
+        self.reads.clear();
+        self.writes.clear();
+    }
+
+    /// Whether two sets of claims conflict: some word is in both, and for writing in one. Costs a walk over the claims
+    /// of `self`.
+    pub fn clashes(&self, other: &Claims) -> bool
+        ensures { IsTrue result ↔ Clash self.now other.now }
+    {
+        let mut from = 0;
+        while let Some(word) = self.next_from(from) {
+            let is_other_claimed = other.has(word, false) || other.has(word, true);
+            if (self.has(word, true) && is_other_claimed) || other.has(word, true) {
+                return true;
+            }
+            from = word + 1;
+        }
+        false
+    }
+}

@@ -1,0 +1,8 @@
+ghost use Rattle.addr_slice.specs.Within.{ClaimsHoldTurns};
+
+/// A law: the claims of an iteration of a program of the first form hold its turn. Whatever words the iteration reads,
+/// each word that it reads is claimed for reading, and each word that it writes for writing.
+pub fn claims_hold_turns()
+    ensures { ClaimsHoldTurns }
+{
+}

@@ -1,0 +1,15 @@
+//! The address slice: which words an iteration may read and write, found without running it.
+//!
+//! In come a program and the values of its loop variables, out comes a set of claims. The claims of an iteration hold
+//! every access that it can make, whatever words it reads.
+#![tactic(auto)]
+
+mod bits;
+mod walk;
+mod claim_set;
+mod law;
+mod word_set;
+
+pub use claim_set::Claims;
+pub use law::claims_hold_turns;
+pub use walk::claims;
