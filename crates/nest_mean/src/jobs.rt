@@ -1,7 +1,11 @@
-ghost use Rattle.std.specs.Prelude.{◌≡◌, IfSome};
+ghost use Rattle.std.specs.Prelude.{◌≡◌, ◌↔◌, IfOk, IfSome, IsSome};
+ghost use Rattle.nest_syntax.specs.FirstForm.{IsFirstForm};
+ghost use Rattle.nest_syntax.specs.Arrays.{arrays_of, sizes_of};
+ghost use Rattle.word_store.specs.Memory.{zeros};
 ghost use Rattle.nest_mean.specs.Nest.{CanRun};
 
-use nest_syntax::Program;
+use nest_syntax::{NoMemory, Program};
+use std::alloc::Global;
 use std::marker::Model;
 use word_store::Words;
 
@@ -28,17 +32,6 @@ impl Model for Job {
 }
 
 impl Job {
-    /// A job of a program without declarations and regions. None for every other program.
-    pub fn new(program: Program, words: Words) -> Option<Job>
-        ensures { IfSome result (λ job. job ≡ record { program = program; opening = words }) }
-    {
-        if program.decls.len() == 0 && program.regions.len() == 0 && words.arrays() == 0 {
-            Some(Job { program, words })
-        } else {
-            None
-        }
-    }
-
     pub fn program(&self) -> &Program
         ensures same { result.now ≡ self.now.program }
         ensures runs { CanRun self.now }

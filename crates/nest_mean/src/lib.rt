@@ -1,6 +1,22 @@
-//! A program with its opening words.
+//! The meaning of a nest, run in textual order.
+//!
+//! In come a program and its opening words, out goes the outcome that the definitions of `nest_syntax` give them: the
+//! final words, or the place of the first trap.
 #![tactic(auto)]
 
+mod arrays;
+mod bodies;
+mod courses;
+mod events;
+mod expressions;
 mod jobs;
+mod outcomes;
+mod saved;
+mod values;
 
+pub use arrays::array_of;
+pub use bodies::{TurnTrap, run_body};
+pub use expressions::eval;
 pub use jobs::Job;
+pub use outcomes::Outcome;
+pub use values::Scalars;

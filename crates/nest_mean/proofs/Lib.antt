@@ -1,0 +1,5 @@
+pub mod Scan
+pub mod Names
+pub mod Parts
+pub mod Statements
+pub mod Kept
