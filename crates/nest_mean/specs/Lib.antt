@@ -2,7 +2,6 @@ pub mod Nest
 pub mod NamesChanged
 pub mod TurnRun
 pub mod TurnParts
-pub mod Nest
 pub mod Outcomes
 pub mod CourseParts
 pub mod Saved

@@ -1,0 +1,7 @@
+pub mod Form
+pub mod Iterations
+pub mod Claims
+pub mod Positions
+pub mod Pieces
+pub mod Engine
+pub mod Reports
