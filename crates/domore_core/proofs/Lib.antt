@@ -5,5 +5,12 @@ pub mod Need
 pub mod WaitsLeft
 pub mod Parts
 pub mod Kept
+pub mod Fixed
 pub mod Textual
 pub mod Course
+pub mod Finished
+pub mod Runs
+pub mod Progress
+pub mod Ahead
+pub mod Falls
+pub mod Ended

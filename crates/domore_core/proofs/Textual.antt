@@ -17,6 +17,7 @@ use Rattle.settle_law.proofs.Nests.{family_turn, reached_after, after_reached, t
 use Rattle.domore_core.specs.Machine.{Setup, State, Seat, seat_at, done_at, all_finished}
 use Rattle.domore_core.specs.Theorems.{IsSetupFor}
 use Rattle.domore_core.specs.Invariant.{Guarded, AllParts, WordsKept}
+use Rattle.domore_core.proofs.Fixed.{keeps_fixed}
 
 -- what the test of finished numbers says
 pub all_finished_at : {B P : Type 0} (width n k : ℕ) (seats : List (Seat B P)) → all_finished width seats n ≡ true → k < n → k < done_at seats (k % width)
@@ -53,14 +54,14 @@ module _ {B C P : Type 0} (m : Setup B C P) (nest : Nest) (tree : B → Cut) (st
 
   -- where all that was handed out is done, textual order gets to the present words
   pub words_are : ((k : ℕ) → k < s.next → k < done_at s.seats (k % m.width)) → reached nest s.next ≡ Some s.words
-  words_are all = sym (after_reached m.system.fixed nest setup.opens_fixed setup.keeps_fixed s.next known)
+  words_are all = sym (after_reached m.system.fixed nest setup.opens_fixed (keeps_fixed m nest tree start setup) s.next known)
     ∙ settles family nest.opening 0 nest.opening trace lawful s.next (omega arith) (λ k from lt. finished_at k (all k lt)) handed_out
     ∙ ap Some words.settles
 
   -- where all up to n is done, textual order gets there
   pub reaches_to : (n : ℕ) → n ≤ s.next → ((k : ℕ) → k < n → k < done_at s.seats (k % m.width)) → (w : List ℤ) × (reached nest n ≡ Some w)
   reaches_to n le all = let r = reaches family nest.opening 0 nest.opening trace lawful n (omega arith) (λ k from lt. finished_at k (all k lt)) in
-    (r.0, sym (after_reached m.system.fixed nest setup.opens_fixed setup.keeps_fixed n (λ k lt. known k (omega arith))) ∙ r.1)
+    (r.0, sym (after_reached m.system.fixed nest setup.opens_fixed (keeps_fixed m nest tree start setup) n (λ k lt. known k (omega arith))) ∙ r.1)
 
   -- where one is trapped behind finished ones, the nest traps there
   pub traps_at : (n : ℕ) (cause : Cause) (line : Line) → n < s.next → ((k : ℕ) → k < n → k < done_at s.seats (k % m.width)) → IsTrapped (family n) (part n trace) cause line → outcome nest ≡ TrappedAt (place_of_trap cause line n false)
@@ -69,7 +70,7 @@ module _ {B C P : Type 0} (m : Setup B C P) (nest : Nest) (tree : B → Cut) (st
       at : (w last : List ℤ) → after family nest.opening n ≡ Some w → turn (family n) w ≡ Stopped cause line last → (o : Option (ℕ × List ℤ)) → iteration_at nest n ≡ o → IsSome o → outcome nest ≡ TrappedAt (place_of_trap cause line n false)
       at w last before ends None is some = absurd (true≢false (sym some))
       at w last before ends (Some i) is some =
-        let textual : reached nest n ≡ Some w = sym (after_reached m.system.fixed nest setup.opens_fixed setup.keeps_fixed n (λ k l. known k (omega arith))) ∙ before in
-        trapped_iteration nest n w i cause line last textual is (sym (family_turn m.system.fixed nest setup.opens_fixed setup.keeps_fixed n i w is (reached_after m.system.fixed nest setup.opens_fixed setup.keeps_fixed n w textual).1) ∙ ends)
+        let textual : reached nest n ≡ Some w = sym (after_reached m.system.fixed nest setup.opens_fixed (keeps_fixed m nest tree start setup) n (λ k l. known k (omega arith))) ∙ before in
+        trapped_iteration nest n w i cause line last textual is (sym (family_turn m.system.fixed nest setup.opens_fixed (keeps_fixed m nest tree start setup) n i w is (reached_after m.system.fixed nest setup.opens_fixed (keeps_fixed m nest tree start setup) n w textual).1) ∙ ends)
       go : (w : List ℤ) × (after family nest.opening n ≡ Some w) × (turn (family n) w ≡ Stopped cause line (settle w (part n trace))) × (Each (λ a. iteration a ≤ n) trace → settle w (part n trace) ≡ settle nest.opening trace) → outcome nest ≡ TrappedAt (place_of_trap cause line n false)
       go (w, before, ends, same) = at w (settle w (part n trace)) before ends (iteration_at nest n) refl (known n lt)

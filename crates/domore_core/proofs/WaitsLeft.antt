@@ -38,7 +38,7 @@ module _ {B C P : Type 0} (m : Setup B C P) (s : State B C P) (tickets : AllTick
   abbrev pub seat : ℕ → Seat B P
   seat u = seat_at s.seats u
 
-  hand_at : (u : ℕ) (hand : Hand P) → u < m.width → (seat u).hand ≡ hand → HandWaits m.width m.clashes s.seats hand
+  pub hand_at : (u : ℕ) (hand : Hand P) → u < m.width → (seat u).hand ≡ hand → HandWaits m.width m.clashes s.seats hand
   hand_at u hand own h = subst (HandWaits m.width m.clashes s.seats) h (i u own).hand
 
   queue_at : (u : ℕ) (queue : List (Ticket B)) → u < m.width → (seat u).queue ≡ queue → Each (λ (t : Ticket B). t.waits ≡ waits m t.number) queue

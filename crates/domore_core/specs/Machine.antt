@@ -1,7 +1,7 @@
 -- The machine: a scheduler hands out iterations, and each worker carries out its own in their order, one stop at a time.
 -- Actors have numbers: workers are 0 to `width - 1`, the scheduler is `width`, and a further actor has nothing to do.
 -- It is said for any bodies `B`, as a cursor hands them out, any cursors `C` and any pieces of work `P`.
-use Rattle.std.specs.Prelude.{◌≡◌, ℕ, zero, suc, ◌%◌, ℤ, Bool, true, false, ◌&&◌, if◌then◌else◌, ◌==◌, Option, Some, None, List, [], ◌∷◌, ◌++◌, length, nat_lt, slice_index_or, slice_set}
+use Rattle.std.specs.Prelude.{◌≡◌, ℕ, zero, suc, ◌%◌, ℤ, Bool, true, false, ◌&&◌, if◌then◌else◌, ◌==◌, Option, Some, None, List, [], ◌∷◌, ◌++◌, length, replicate, nat_lt, slice_index_or, slice_set}
 use Rattle.std.specs.Option.{option_map, option_map_or}
 use Rattle.nest_syntax.specs.declared.names.Line.{Line}
 use Rattle.nest_syntax.specs.declared.operators.Cause.{Cause}
@@ -58,6 +58,9 @@ pub record Setup (B C P : Type 0) : Type 0 where
 abbrev pub gone_seat : {B P : Type 0} → Seat B P
 gone_seat = record { hand = Gone; queue = []; done = 0 }
 
+abbrev pub opening_seat : {B P : Type 0} → Seat B P
+opening_seat = record { hand = Idle; queue = []; done = 0 }
+
 -- the seat of worker u, and what it has done
 abbrev pub seat_at : {B P : Type 0} → List (Seat B P) → ℕ → Seat B P
 seat_at seats u = slice_index_or seats u gone_seat
@@ -112,12 +115,8 @@ module _ {B C P : Type 0} (m : Setup B C P) where
   waits k = waits_of m.clashes m.width k
 
   -- The opening: words and a cursor are given, queues are empty, workers idle, nothing is done.
-  abbrev pub opening_seats : ℕ → List (Seat B P)
-  opening_seats zero = []
-  opening_seats (suc n) = record { hand = Idle; queue = []; done = 0 } ∷ opening_seats n
-
   abbrev pub opening : C → List ℤ → State B C P
-  opening cursor words = record { words = words; cursor = cursor; next = 0; seats = opening_seats m.width; trap = None; halted = false; facts = no_facts }
+  opening cursor words = record { words = words; cursor = cursor; next = 0; seats = replicate m.width opening_seat; trap = None; halted = false; facts = no_facts }
 
   -- What is enabled. The scheduler halts at the end or where a trap is kept. It drains where all iterations before are
   -- finished, and dispatches where the worker's queue has room.

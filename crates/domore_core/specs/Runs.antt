@@ -12,6 +12,12 @@ abbrev pub run : {S : Type 0} → (S → ℕ → Option S) → S → List ℕ �
 run step s [] = Some s
 run step s (actor ∷ history) = option_and_then (λ t. run step t history) (step s actor)
 
+-- a history is complete from a state where it is legal and ends in a finished state
+pub record IsComplete {S : Type 0} (step : S → ℕ → Option S) (is_finished : S → Bool) (s : S) (history : List ℕ) : Type 0 where
+  pub last : S
+  pub ran : run step s history ≡ Some last
+  pub finished : is_finished last ≡ true
+
 module _ {B C P : Type 0} (m : Setup B C P) where
   -- the accesses to written arrays that the steps of a history make, oldest first
   abbrev pub made_by : State B C P → ℕ → List Access
@@ -24,12 +30,6 @@ module _ {B C P : Type 0} (m : Setup B C P) where
   -- the machine is finished where the scheduler and all workers are ended
   abbrev pub is_finished : State B C P → Bool
   is_finished s = s.halted && list_all (λ (seat : Seat B P). is_gone seat.hand) s.seats
-
-  -- a history is complete where it is legal and its last state is finished
-  pub record IsComplete (from : State B C P) (history : List ℕ) : Type 0 where
-    pub last : State B C P
-    pub ran : run (step m) from history ≡ Some last
-    pub finished : is_finished last ≡ true
 
 -- how a finished machine ends: at the kept trap, or with its words
 abbrev pub ending_of : {B C P : Type 0} → State B C P → Ending

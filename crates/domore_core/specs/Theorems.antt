@@ -1,30 +1,32 @@
 -- What is claimed of every history, whatever the order of the actors in it.
-use Rattle.std.specs.Prelude.{◌≡◌, ℕ, ◌<◌, ◌≤◌, ℤ, true, false, Some, IsSome, List}
+use Rattle.std.specs.Prelude.{◌≡◌, ◌↔◌, ℕ, ◌+◌, ◌<◌, ◌≤◌, ℤ, true, false, Some, None, IsSome, List}
 use Rattle.nest_syntax.specs.Outcome.{Done}
 use Rattle.settle_law.specs.Cuts.{Cut, HoldsFixed}
 use Rattle.settle_law.specs.Traces.{Access, Replays, InOrder, settle, Apart}
 use Rattle.settle_law.specs.Tasks.{Realises}
 use Rattle.settle_law.specs.Courses.{Nest, Follows, family_of, outcome}
-use Rattle.settle_law.specs.Reading.{NestKeepsFixed}
 use Rattle.domore_core.specs.Facts.{facts_of}
-use Rattle.domore_core.specs.Machine.{Setup, State, opening, step, waits}
-use Rattle.domore_core.specs.Runs.{run, trace_from, is_finished, ending_of}
+use Rattle.domore_core.specs.Machine.{Setup, State, opening, step, waits, ended_actor}
+use Rattle.domore_core.specs.Runs.{run, IsComplete, trace_from, is_finished, ending_of}
 
 -- A setup is for a nest where there is a worker and room in its queue; the first piece of each body realises the body's
--- cut turn; the cursor follows the course of the nest; `const` words have their values as the nest opens, and no
--- iteration writes them; and iterations whose claims don't clash are apart.
+-- cut turn; the cursor follows the course of the nest; `const` words have their values as the nest opens; and iterations
+-- whose claims don't clash are apart.
 pub record IsSetupFor {B C P : Type 0} (m : Setup B C P) (nest : Nest) (tree : B → Cut) (start : C) : Type 0 where
   pub some_worker : 0 < m.width
   pub some_room : 0 < m.room
   pub begins : (b : B) → Realises m.system (tree b) (m.entry b)
   pub follows : Follows nest tree m.event start nest.course
   pub opens_fixed : HoldsFixed m.system.fixed nest.opening
-  pub keeps_fixed : NestKeepsFixed m.system.fixed nest
   pub apart : (j k : ℕ) → j < k → m.clashes j k ≡ false → Apart (family_of m.system.fixed nest j) (family_of m.system.fixed nest k)
 
 -- a legal history leads from the opening to a state
 abbrev pub Leads : {B C P : Type 0} → Setup B C P → Nest → C → List ℕ → State B C P → Type 0
 Leads m nest start history s = run (step m) (opening m start nest.opening) history ≡ Some s
+
+-- a history from the opening is complete
+abbrev pub Completes : {B C P : Type 0} → Setup B C P → Nest → C → List ℕ → Type 0
+Completes m nest start history = IsComplete (step m) (is_finished m) (opening m start nest.opening) history
 
 -- a trace replays from the opening words, is in order, and settles to these words
 pub record KeepsOrder (from : List ℤ) (trace : List Access) (words : List ℤ) : Type 0 where
@@ -38,11 +40,11 @@ HistoriesKeepOrder B C P = (m : Setup B C P) (nest : Nest) (tree : B → Cut) (s
 
 -- Each complete history ends as the nest does in textual order: with its final words, or at its first trap.
 abbrev pub HistoriesEndAsNest : Type 0 → Type 0 → Type 0 → Type 0
-HistoriesEndAsNest B C P = (m : Setup B C P) (nest : Nest) (tree : B → Cut) (start : C) → IsSetupFor m nest tree start → (history : List ℕ) (s : State B C P) → Leads m nest start history s → is_finished m s ≡ true → ending_of s ≡ outcome nest
+HistoriesEndAsNest B C P = (m : Setup B C P) (nest : Nest) (tree : B → Cut) (start : C) → IsSetupFor m nest tree start → (history : List ℕ) (complete : Completes m nest start history) → ending_of complete.last ≡ outcome nest
 
 -- Where the nest doesn't trap, each complete history counts the same.
 abbrev pub FactsAreOfNest : Type 0 → Type 0 → Type 0 → Type 0
-FactsAreOfNest B C P = (m : Setup B C P) (nest : Nest) (tree : B → Cut) (start : C) → IsSetupFor m nest tree start → (history : List ℕ) (s : State B C P) → Leads m nest start history s → is_finished m s ≡ true → (words : List ℤ) → outcome nest ≡ Done words → s.facts ≡ facts_of (waits m) nest
+FactsAreOfNest B C P = (m : Setup B C P) (nest : Nest) (tree : B → Cut) (start : C) → IsSetupFor m nest tree start → (history : List ℕ) (complete : Completes m nest start history) (words : List ℤ) → outcome nest ≡ Done words → complete.last.facts ≡ facts_of (waits m) nest
 
 -- some worker or the scheduler has a step
 pub record CanGoOn {B C P : Type 0} (m : Setup B C P) (s : State B C P) : Type 0 where
@@ -53,3 +55,15 @@ pub record CanGoOn {B C P : Type 0} (m : Setup B C P) (s : State B C P) : Type 0
 -- In each state that a legal history leaves and that isn't finished, some actor has a step.
 abbrev pub UnfinishedGoOn : Type 0 → Type 0 → Type 0 → Type 0
 UnfinishedGoOn B C P = (m : Setup B C P) (nest : Nest) (tree : B → Cut) (start : C) → IsSetupFor m nest tree start → (history : List ℕ) (s : State B C P) → Leads m nest start history s → is_finished m s ≡ false → CanGoOn m s
+
+-- An actor whose part is ended has no step.
+abbrev pub EndedHaveNoStep : Type 0 → Type 0 → Type 0 → Type 0
+EndedHaveNoStep B C P = (m : Setup B C P) (s : State B C P) (actor : ℕ) → ended_actor m s actor ≡ true → step m s actor ≡ None
+
+-- Its part stays ended, whoever makes a step.
+abbrev pub EndedStay : Type 0 → Type 0 → Type 0 → Type 0
+EndedStay B C P = (m : Setup B C P) (nest : Nest) (tree : B → Cut) (start : C) → IsSetupFor m nest tree start → (history : List ℕ) (s t : State B C P) (actor other : ℕ) → Leads m nest start history s → ended_actor m s actor ≡ true → step m s other ≡ Some t → ended_actor m t actor ≡ true
+
+-- The machine is finished exactly where the parts of all actors are ended: the workers, the scheduler and one more.
+abbrev pub FinishedIsAllEnded : Type 0 → Type 0 → Type 0 → Type 0
+FinishedIsAllEnded B C P = (m : Setup B C P) (nest : Nest) (tree : B → Cut) (start : C) → IsSetupFor m nest tree start → (history : List ℕ) (s : State B C P) → Leads m nest start history s → (is_finished m s ≡ true) ↔ ((actor : ℕ) → actor < m.width + 2 → ended_actor m s actor ≡ true)
