@@ -7,3 +7,4 @@ pub mod Held
 pub mod Room
 pub mod Sound
 pub mod Bodies
+pub mod Turns

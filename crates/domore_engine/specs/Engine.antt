@@ -21,13 +21,13 @@ use Rattle.domore_core.specs.Machine as machine
 use Rattle.domore_core.specs.Rows as rows
 use Rattle.domore_core.specs.Runs as runs
 use Rattle.domore_core.specs.Measure as measures
-use Rattle.domore_engine.specs.declared.position.Iteration.{Iteration}
-use Rattle.domore_engine.specs.declared.position.Position.{Position}
-use Rattle.domore_engine.specs.declared.position.Position.TheVariants.{Region}
-use Rattle.domore_engine.specs.Form.{first_of}
-use Rattle.domore_engine.specs.Claims.{clashes}
-use Rattle.domore_engine.specs.Positions.{event_at}
-use Rattle.domore_engine.specs.Pieces.{Piece, entry, system_of}
+use Rattle.first_tasks.specs.declared.position.Iteration.{Iteration}
+use Rattle.first_tasks.specs.declared.position.Position.{Position}
+use Rattle.first_tasks.specs.declared.position.Position.TheVariants.{Region}
+use Rattle.first_tasks.specs.Form.{first_of}
+use Rattle.first_tasks.specs.Claims.{clashes}
+use Rattle.first_tasks.specs.Positions.{event_at}
+use Rattle.first_tasks.specs.Pieces.{Piece, entry, system_of}
 use Rattle.domore_engine.specs.Reports.{report_of}
 
 -- what the machine is built on, for a job and options

@@ -1,7 +1,2 @@
-pub mod Form
-pub mod Iterations
-pub mod Claims
-pub mod Positions
-pub mod Pieces
 pub mod Engine
 pub mod Reports

@@ -10,8 +10,8 @@ use Rattle.nest_syntax.specs.Course.{bodies_of, opening_scalars}
 use Rattle.nest_syntax.specs.Outcome.{turn_in}
 use Rattle.nest_syntax.specs.FirstForm.{First}
 use Rattle.settle_law.specs.Cuts.{Cut, cut}
-use Rattle.domore_engine.specs.declared.position.Iteration.{Iteration}
-use Rattle.domore_engine.specs.Form.{first_of, count_of}
+use Rattle.first_tasks.specs.declared.position.Iteration.{Iteration}
+use Rattle.first_tasks.specs.Form.{first_of, count_of}
 
 -- iteration k of turn t
 abbrev pub iteration_of : First → ℕ → ℕ → Iteration

@@ -5,9 +5,9 @@ use Rattle.nest_syntax.specs.declared.tree.Program.{Program}
 use Rattle.nest_syntax.specs.Value.{scalar_at}
 use Rattle.addr_slice.specs.Claims.{Claim}
 use Rattle.addr_slice.specs.Walk.{claims_of}
-use Rattle.domore_engine.specs.declared.position.Iteration.{Iteration}
-use Rattle.domore_engine.specs.Form.{first_of}
-use Rattle.domore_engine.specs.Iterations.{scalars_in, iteration_numbered}
+use Rattle.first_tasks.specs.declared.position.Iteration.{Iteration}
+use Rattle.first_tasks.specs.Form.{first_of}
+use Rattle.first_tasks.specs.Iterations.{scalars_in, iteration_numbered}
 
 -- the claims of an iteration, by the values that the two variables have as its scalars
 abbrev pub claims_in : Program → Iteration → List Claim

@@ -7,9 +7,9 @@ use Rattle.nest_syntax.specs.declared.tree.Program.{Program}
 use Rattle.nest_syntax.specs.FirstForm.{First}
 use Rattle.settle_law.specs.Cuts.{Cut, Finished, Trapped, Reads, Writes, Pauses}
 use Rattle.settle_law.specs.Tasks.{Stop, Loads, Stores, Goes, Finishes, Traps, System}
-use Rattle.domore_engine.specs.declared.position.Iteration.{Iteration}
-use Rattle.domore_engine.specs.Form.{first_of}
-use Rattle.domore_engine.specs.Iterations.{cut_turn}
+use Rattle.first_tasks.specs.declared.position.Iteration.{Iteration}
+use Rattle.first_tasks.specs.Form.{first_of}
+use Rattle.first_tasks.specs.Iterations.{cut_turn}
 
 -- an iteration, the words that it has read, in order, and whether it has made its write
 pub record Piece : Type 0 where

@@ -3,11 +3,11 @@ use Rattle.std.specs.Prelude.{◌≡◌, ℕ, suc, ◌+◌, ◌*◌, ◌<◌, �
 use Rattle.nest_syntax.specs.FirstForm.{First}
 use Rattle.nest_syntax.specs.Course.{Ordinary, Header}
 use Rattle.settle_law.specs.Courses.{Event, End, Scalar, Iterate, Close}
-use Rattle.domore_engine.specs.declared.position.Iteration.{Iteration}
-use Rattle.domore_engine.specs.declared.position.Position.{Position}
-use Rattle.domore_engine.specs.declared.position.Position.TheVariants as position
-use Rattle.domore_engine.specs.Form.{count_of}
-use Rattle.domore_engine.specs.Iterations.{iteration_of}
+use Rattle.first_tasks.specs.declared.position.Iteration.{Iteration}
+use Rattle.first_tasks.specs.declared.position.Position.{Position}
+use Rattle.first_tasks.specs.declared.position.Position.TheVariants as position
+use Rattle.first_tasks.specs.Form.{count_of}
+use Rattle.first_tasks.specs.Iterations.{iteration_of}
 
 -- The event at a position, with the position behind it. No event of the scheduler traps in the first form: its bounds
 -- are numbers.

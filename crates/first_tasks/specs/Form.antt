@@ -1,6 +1,6 @@
 -- What a program of the first form is made of, read out of its tree.
-use Rattle.std.specs.Prelude.{ℕ, ◌-◌, pos, unsigned_abs, unwrap_or, Option, Some, None, List, [], ◌∷◌}
-use Rattle.std.specs.Option.{option_map, option_and_then}
+use Rattle.std.specs.Prelude.{ℕ, ◌+◌, ◌-◌, pos, unsigned_abs, Bool, true, false, not, ◌&&◌, ◌==◌, nat_le, if◌then◌else◌, Option, Some, None, List, [], ◌∷◌}
+use Rattle.std.specs.Option.{option_map_or, option_and_then}
 use Rattle.nest_syntax.specs.declared.names.Line.{Line}
 use Rattle.nest_syntax.specs.declared.tree.Expr.{Expr, out-Expr}
 use Rattle.nest_syntax.specs.declared.tree.Expr.TheOpen.{Expr-F}
@@ -12,7 +12,7 @@ use Rattle.nest_syntax.specs.declared.tree.Loop.{Loop}
 use Rattle.nest_syntax.specs.declared.tree.Decl.{Decl}
 use Rattle.nest_syntax.specs.declared.tree.Decl.TheVariants as decl
 use Rattle.nest_syntax.specs.declared.tree.Program.{Program}
-use Rattle.nest_syntax.specs.FirstForm.{First, Turns}
+use Rattle.nest_syntax.specs.FirstForm.{First, Turns, decls_of, regions_of, is_allowed, operators, greatest_bound}
 
 -- the number that an expression is
 abbrev pub number_at : Expr-F Expr → ℕ
@@ -51,19 +51,34 @@ abbrev pub with_block : Turns → Turns → Decl → List Stmt → Option First
 with_block outer inner declared [] = None
 with_block outer inner declared (stmt ∷ block) = with_write outer inner declared (out-Stmt stmt)
 
-abbrev pub read_first : Program → Option First
-read_first program =
-    option_and_then (λ (declared : Decl). option_and_then (λ (region : Loop). option_and_then (λ (inner : Loop). with_block (turns_at region) (turns_at inner) declared inner.body) (loop_in region.body)) (region_in program.regions)) (decl_in program.decls)
+abbrev pub read_parts : List Decl → List Loop → Option First
+read_parts decls regions =
+    option_and_then (λ (declared : Decl). option_and_then (λ (region : Loop). option_and_then (λ (inner : Loop). with_block (turns_at region) (turns_at inner) declared inner.body) (loop_in region.body)) (region_in regions)) (decl_in decls)
 
-abbrev pub no_turns : Turns
-no_turns = record { line = record { 0 = 0 }; name = 0; low = 0; high = 0 }
+-- the conditions of the first form, as a test
+abbrev pub is_kept : First → Bool
+is_kept first =
+    not (first.array == first.outer.name) && (not (first.array == first.inner.name) && (not (first.outer.name == first.inner.name)
+    && (nat_le 1 first.length && (nat_le first.length 1048576
+    && (nat_le first.outer.low greatest_bound && (nat_le first.outer.high greatest_bound && (nat_le first.inner.low greatest_bound && (nat_le first.inner.high greatest_bound
+    && (is_allowed first.array first.outer.name first.inner.name first.place false && (is_allowed first.array first.outer.name first.inner.name first.value true
+    && nat_le (operators first.place + operators first.value) 12))))))))))
 
-abbrev pub no_first : First
-no_first = record { line = record { 0 = 0 }; array = 0; length = 0; outer = no_turns; inner = no_turns; write_line = record { 0 = 0 }; place = expr.Number (pos 0); value = expr.Number (pos 0) }
+-- parts of a program of the first form that has no iteration
+abbrev pub no_turns : ℕ → Turns
+no_turns name = record { line = record { 0 = 0 }; name = name; low = 0; high = 0 }
 
--- The parts of a program. Of one that isn't of the first form they say nothing.
+abbrev pub no_iterations : First
+no_iterations = record { line = record { 0 = 0 }; array = 0; length = 1; outer = no_turns 1; inner = no_turns 2; write_line = record { 0 = 0 }; place = expr.Number (pos 0); value = expr.Number (pos 0) }
+
+-- The parts of a program of the first form. Any other program counts as one without iterations, so that what is said
+-- here of programs of the first form is said of every program.
 abbrev pub first_of : Program → First
-first_of program = unwrap_or (read_first program) no_first
+first_of program = option_map_or (λ (first : First). if is_kept first then first else no_iterations) (read_parts program.decls program.regions) no_iterations
+
+-- the program with these parts: a program of the first form itself
+abbrev pub first_form : Program → Program
+first_form program = record { names = program.names; decls = decls_of (first_of program); regions = regions_of (first_of program) }
 
 -- how often a loop turns
 abbrev pub count_of : Turns → ℕ
