@@ -1,14 +1,12 @@
 -- The one body of a program of the first form, and its turn.
-use Rattle.std.proofs.Common.{◌≡◌, ℕ, ℤ, None, List, [], ◌∷◌, ◌++◌, map, ap, sym, ◌∙◌}
+use Rattle.std.proofs.Common.{◌≡◌, ℤ, None, List, [], ◌∷◌, ◌++◌, map, ap, ◌∙◌}
 use Rattle.nest_syntax.specs.declared.operators.Op.TheVariants as op
-use Rattle.nest_syntax.specs.declared.tree.Loop.{Loop}
 use Rattle.nest_syntax.specs.declared.tree.Program.{Program}
-use Rattle.nest_syntax.specs.declared.tree.Stmt.{Stmt}
 use Rattle.nest_syntax.specs.declared.tree.Stmt.TheVariants as stmt
-use Rattle.nest_syntax.specs.Arrays.{Array, arrays_of, located}
-use Rattle.nest_syntax.specs.Turn.{Turn, Finished, Effect, reckoning, inside, writing, effect, turn_of}
-use Rattle.nest_syntax.specs.Course.{Setting, Item, Looped, setting_of, in_order, region_of, looped_of, item_of, bodies_of}
-use Rattle.nest_syntax.specs.FirstForm.{First, IsFirstForm, decls_of, regions_of}
+use Rattle.nest_syntax.specs.Arrays.{Array, located}
+use Rattle.nest_syntax.specs.Turn.{Finished, Effect, reckoning, inside, writing, turn_of}
+use Rattle.nest_syntax.specs.Course.{Setting, Item, Looped, setting_of, in_order, region_of, item_of, bodies_of}
+use Rattle.nest_syntax.specs.FirstForm.{First, IsFirstForm}
 use Rattle.nest_syntax.proofs.Equations.{effect-write, looped-is, item-loop}
 use Rattle.addr_slice.proofs.Parts.{write_of, invocation_of, region_of as region}
 

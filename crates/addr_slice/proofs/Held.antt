@@ -1,8 +1,8 @@
 -- The claims of a list are in the set that they are put into.
-use Rattle.std.proofs.Common.{◌≡◌, ℕ, ◌<◌, ◌≤◌, Bool, true, false, IsTrue, List, [], ◌∷◌, ◌++◌, length, get_or, set, replicate, ⊎_elim, refl, ap, sym, ◌∙◌, arith}
+use Rattle.std.proofs.Common.{◌≡◌, ℕ, ◌<◌, Bool, true, false, IsTrue, List, [], ◌∷◌, ◌++◌, length, set, ⊎_elim, refl, ap, sym, ◌∙◌, arith}
 use Rattle.std.proofs.lemmas.Bool.{cases_eq}
-use Rattle.std.proofs.lemmas.List.{get_or-set_same, get_or-set_other, length-set, length-replicate}
-use Rattle.addr_slice.specs.Claims.{Claim, Claimed, has, is_set, words_of, no_claims, with_claim, with_claims, AreEven}
+use Rattle.std.proofs.lemmas.List.{get_or-set_same, get_or-set_other, length-set}
+use Rattle.addr_slice.specs.Claims.{Claim, Claimed, has, is_set, words_of, with_claim, with_claims}
 use Rattle.addr_slice.proofs.Sets.{is_set-within}
 
 -- what holds of each claim of a list
@@ -62,7 +62,8 @@ pub claimed-from_list : (list : List Claim) (claims : Claimed) → length claims
 claimed-from_list [] claims even h = tt
 claimed-from_list (c ∷ list) claims even h =
     let more = with_claim claims c.word c.write in
-    let same : words_of more ≡ words_of claims = as_many claims c.word c.write in
-    (stays list more c.word c.write (is_there claims c.word c.write even h.0),
-     claimed-from_list list more (even_still claims c.word c.write even)
-        (Each-along (λ d. d.word < words_of claims) (λ d. d.word < words_of more) list (λ d below. omega (arith, below, same)) h.1))
+    let same : words_of more ≡ words_of claims = as_many claims c.word c.write in (
+      stays list more c.word c.write (is_there claims c.word c.write even h.0),
+      claimed-from_list list more (even_still claims c.word c.write even)
+          (Each-along (λ d. d.word < words_of claims) (λ d. d.word < words_of more) list (λ d below. omega (arith, below, same)) h.1),
+    )

@@ -8,3 +8,4 @@ pub mod Room
 pub mod Sound
 pub mod Bodies
 pub mod Turns
+pub mod Clashes

@@ -1,5 +1,5 @@
 -- The parts of a program of the first form, as they are read out of it.
-use Rattle.std.proofs.Common.{◌≡◌, ℕ, ℤ, Bool, false, Option, Some, IsTrue, true, List, [], ◌∷◌, refl, ap, sym, subst, ◌∙◌}
+use Rattle.std.proofs.Common.{◌≡◌, ℕ, ℤ, Bool, false, Some, IsTrue, true, List, [], ◌∷◌, ap, ◌∙◌}
 use Rattle.std.specs.List.{slice_get}
 use Rattle.nest_syntax.specs.declared.names.Line.{Line}
 use Rattle.nest_syntax.specs.declared.operators.Op.{Op as Change}
@@ -11,7 +11,7 @@ use Rattle.nest_syntax.specs.declared.tree.Decl.{Decl}
 use Rattle.nest_syntax.specs.declared.tree.Stmt.{Stmt}
 use Rattle.nest_syntax.specs.declared.tree.Stmt.TheVariants as stmt
 use Rattle.nest_syntax.specs.declared.operators.Op.TheVariants as op
-use Rattle.nest_syntax.specs.FirstForm.{First, IsKept, IsFirstForm, is_allowed, loop_of, regions_of, decls_of}
+use Rattle.nest_syntax.specs.FirstForm.{First, IsKept, IsFirstForm, is_allowed, loop_of}
 use Rattle.addr_slice.specs.Walk.{Walk, walk_of_write, scalars_with, claims_of}
 
 -- the write of such a program, and the loops around it
@@ -85,5 +85,5 @@ parts-read program form line array length fixed region invocation place value de
       of_outer = ap (λ (l : Loop). l.name) outside;
       of_inner = ap (λ (l : Loop). l.name) inside;
       of_place = write.0;
-      of_value = write.1
+      of_value = write.1;
     }

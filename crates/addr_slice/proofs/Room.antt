@@ -1,27 +1,16 @@
 -- The claims of a walk are words of the program's array.
-use Rattle.std.proofs.Common.{◌≡◌, ◌≢◌, ℕ, zero, suc, ◌+◌, ◌<◌, ◌≤◌, ℤ, pos, negsuc, Bool, true, false, ◌&&◌, ◌||◌, ◌==◌, if◌then◌else◌, IsTrue, Option, Some, None, Result, Ok, Err, List, [], ◌∷◌, ◌++◌, map, length, sum, take, set, replicate, nat_lt, ⊎_elim, refl, ap, sym, subst, ◌∙◌, arith}
+use Rattle.std.proofs.Common.{◌≡◌, ℕ, ◌<◌, ℤ, pos, negsuc, Bool, true, false, ◌&&◌, ◌==◌, if◌then◌else◌, IsTrue, Option, Some, None, Result, Ok, Err, List, [], ◌∷◌, sum, take, nat_lt, ⊎_elim, refl, ap, sym, subst, ◌∙◌, arith}
 use Rattle.std.specs.Option.{option_map, option_and_then, option_map_or}
-use Rattle.std.proofs.lemmas.Bool.{false≢true, true≢false, and_parts, or_cases, eqb-true, ltb-true, cases_Bool}
-use Rattle.std.proofs.lemmas.List.{get_or-set_same, get_or-set_other, length-set, length-replicate}
-use Rattle.nest_syntax.specs.declared.names.Line.{Line}
-use Rattle.nest_syntax.specs.declared.operators.Bin.{Bin}
-use Rattle.nest_syntax.specs.declared.operators.Bin.TheVariants as bin
-use Rattle.nest_syntax.specs.declared.operators.Un.{Un}
+use Rattle.std.proofs.lemmas.Bool.{false≢true, and_parts, ltb-true, cases_Bool}
 use Rattle.nest_syntax.specs.declared.operators.Cause.{Cause}
 use Rattle.nest_syntax.specs.declared.tree.Expr.{Expr}
-use Rattle.nest_syntax.specs.declared.tree.Expr.TheVariants as expr
-use Rattle.nest_syntax.specs.Words.{apply}
 use Rattle.nest_syntax.specs.Arrays.{Array, sizes_of, located, place_in, place_of, word_number}
-use Rattle.nest_syntax.specs.Value.{value, scalar_at, and_then, operate}
-use Rattle.nest_syntax.specs.Turn.{Turn, Reckoning, reckoning, operation_turn, done_with, inside, writing, Load}
+use Rattle.nest_syntax.specs.Value.{value}
 use Rattle.nest_syntax.specs.FirstForm.{is_allowed, is_arithmetic}
-use Rattle.nest_syntax.proofs.Equations.{value-number, value-scalar, value-binary, reckoning-number, reckoning-scalar, reckoning-word, reckoning-binary}
-use Rattle.addr_slice.specs.Claims.{Claim}
-use Rattle.addr_slice.specs.Walk.{Walk, nothing, trap, claim, touched, and_then_walk, walk, walk_of_write, scalars_with}
-use Rattle.addr_slice.specs.Within.{Within}
-use Rattle.addr_slice.proofs.Nodes.{expr_induction, allowed-scalar, allowed-word, allowed-unary, allowed-binary, allowed-choice}
+use Rattle.addr_slice.specs.Walk.{Walk, trap, claim, touched, and_then_walk, walk, walk_of_write}
+use Rattle.addr_slice.proofs.Nodes.{expr_induction, allowed-unary, allowed-binary, allowed-choice}
 use Rattle.addr_slice.proofs.Walks.{walk-number, walk-scalar, walk-word, walk-binary, and_then_walk-trapped, and_then_walk-went_on}
-use Rattle.addr_slice.proofs.Held.{Each, AllClaimed, Each-append, Each-first, Each-second}
+use Rattle.addr_slice.proofs.Held.{Each, Each-append}
 
 -- one array: where a subscript is located, and that its claim has room
 module _ (array size : ℕ) where
@@ -72,9 +61,9 @@ module _ (array size : ℕ) where
         (λ name place p is. subst (λ (w : Walk). Each (λ c. c.word < size) w.claims) (sym (walk-word one_array scalars name place)) (touched-within name false (value one_array scalars [] place)))
         (λ o a p is. absurd (false≢true (sym (allowed-unary array outer inner true o a) ∙ is)))
         (λ o a b p q is.
-            let both = and_parts (is_arithmetic o) (is_allowed array outer inner a true && is_allowed array outer inner b true) (sym (allowed-binary array outer inner true o a b) ∙ is) in
-            let each = and_parts (is_allowed array outer inner a true) (is_allowed array outer inner b true) both.1 in
-            subst (λ (w : Walk). Each (λ c. c.word < size) w.claims) (sym (walk-binary one_array scalars o a b)) (and_then-within (walk one_array scalars a) (walk one_array scalars b) (p each.0) (q each.1)))
+        let both = and_parts (is_arithmetic o) (is_allowed array outer inner a true && is_allowed array outer inner b true) (sym (allowed-binary array outer inner true o a b) ∙ is) in
+        let each = and_parts (is_allowed array outer inner a true) (is_allowed array outer inner b true) both.1 in
+        subst (λ (w : Walk). Each (λ c. c.word < size) w.claims) (sym (walk-binary one_array scalars o a b)) (and_then-within (walk one_array scalars a) (walk one_array scalars b) (p each.0) (q each.1)))
         (λ t a b p q r is. absurd (false≢true (sym (allowed-choice array outer inner true t a b) ∙ is)))
 
     pub walk_of_write-within : (place expr : Expr) → IsTrue (is_allowed array outer inner expr true) → Each (λ c. c.word < size) (walk_of_write one_array scalars array place expr).claims

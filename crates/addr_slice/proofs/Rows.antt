@@ -1,9 +1,9 @@
 -- Bits of a row, and numbers in rows.
-use Rattle.std.proofs.Common.{◌≡◌, ◌≢◌, ℕ, suc, ◌+◌, ◌*◌, ◌/◌, ◌%◌, ◌^◌, ◌<◌, ◌≤◌, Bool, true, false, Option, Some, None, IsTrue, List, length, get_or, ◌-◌, ◌==◌, ◌⊎◌, ⊎_elim, refl, ap, sym, ◌∙◌, arith}
+use Rattle.std.proofs.Common.{◌≡◌, ◌≢◌, ℕ, ◌+◌, ◌*◌, ◌/◌, ◌%◌, ◌^◌, ◌<◌, ◌≤◌, Bool, true, false, Option, Some, None, List, length, get_or, ◌-◌, ◌==◌, ⊎_elim, refl, ap, sym, ◌∙◌, arith}
 use Rattle.std.specs.Int.{bit_at, w64, trailing_zeros}
 use Rattle.std.proofs.lemmas.Bool.{eq-eqb, ne_eqb, eqb-true, true≢false, cases_lt}
 use Rattle.std.proofs.lemmas.List.{get_or_past}
-use Rattle.std.proofs.lemmas.Nat.Bits.{bit_at-zero, bit_at-trailing_zeros, bit_at_above, bit_at_set_same, bit_at_set_other, bit_at-lt}
+use Rattle.std.proofs.lemmas.Nat.Bits.{bit_at-zero, bit_at-trailing_zeros, bit_at_above, bit_at_set_same, bit_at_set_other}
 use Rattle.std.specs.Int.RustNames.{bit_or}
 use lib.Pow.{shr-shr}
 use Rattle.addr_slice.specs.Claims.{IsNext}
@@ -75,9 +75,12 @@ next_in_rows-past rows at past k h =
 
 -- the first number of a row is the next one
 pub next_in_rows-here : (rows : List ℕ) (at bit : ℕ) → bit < 64 → IsNext (has_bit (get_or rows (at / 64) 0)) (at % 64) (Some bit) → IsNext (in_rows rows) at (Some (at / 64 * 64 + bit))
-next_in_rows-here rows at bit h next =
-    (omega (arith, next.0), in_rows-of rows (at / 64) bit _ refl h ∙ next.1, λ k not_below below.
-        in_rows-of rows (at / 64) (k - at / 64 * 64) k (omega arith) (omega arith) ∙ next.2 (k - at / 64 * 64) (omega arith) (omega arith))
+next_in_rows-here rows at bit h next = (
+  omega (arith, next.0),
+  in_rows-of rows (at / 64) bit _ refl h ∙ next.1,
+  λ k not_below below.
+      in_rows-of rows (at / 64) (k - at / 64 * 64) k (omega arith) (omega arith) ∙ next.2 (k - at / 64 * 64) (omega arith) (omega arith),
+)
 
 -- a row has no number from one of its numbers on
 pub next_in_rows-skipped : (rows : List ℕ) (at : ℕ) → IsNext (has_bit (get_or rows (at / 64) 0)) (at % 64) None → (k : ℕ) → at ≤ k → k < (at / 64 + 1) * 64 → in_rows rows k ≡ false

@@ -1,5 +1,5 @@
 -- The flags of a set against its rows.
-use Rattle.std.proofs.Common.{◌≡◌, ◌≢◌, ℕ, suc, ◌+◌, ◌-◌, ◌*◌, ◌/◌, ◌%◌, ◌<◌, ◌≤◌, Bool, true, false, Option, Some, None, IsTrue, List, length, get_or, set, map, replicate, nat_lt, ◌⊎◌, ⊎_elim, refl, ap, sym, ◌∙◌, arith}
+use Rattle.std.proofs.Common.{◌≡◌, ◌≢◌, ℕ, ◌+◌, ◌-◌, ◌*◌, ◌/◌, ◌%◌, ◌<◌, ◌≤◌, Bool, true, false, Option, Some, None, List, length, get_or, set, replicate, nat_lt, ⊎_elim, refl, ap, sym, ◌∙◌, arith}
 use Rattle.std.proofs.lemmas.Bool.{lt-ltb, ltb-true, ltb-false, cases_lt, cases_eq, true≢false}
 use Rattle.std.proofs.lemmas.List.{get_or_past, get_or-set_same, get_or-set_other, get_or-replicate, length-replicate, length-set, ext_get_or}
 use Rattle.std.proofs.lemmas.List.FromFn.{length-map-range_with_len, get_or-map-range_with_len}
@@ -22,7 +22,7 @@ flag-inside count rows k h = get_or-map-range_with_len (in_rows rows) 0 count k 
 pub flag-is : (count : ℕ) (rows summary : List ℕ) (flags : List Bool) → IsSummed count rows summary → flags_of count rows ≡ flags → (k : ℕ) → is_set flags k ≡ in_rows rows k
 flag-is count rows summary flags kept e k =
     ap (λ f. is_set f k) (sym e) ∙ ⊎_elim (flag-inside count rows k)
-        (λ behind. get_or_past (flags_of count rows) k false (omega (arith, length-flags_of count rows)) ∙ sym (kept.none_behind k behind)) (cases_lt k count)
+    (λ behind. get_or_past (flags_of count rows) k false (omega (arith, length-flags_of count rows)) ∙ sym (kept.none_behind k behind)) (cases_lt k count)
 
 -- a row that the summary doesn't name has no number
 empty_row : (count : ℕ) (rows summary : List ℕ) → IsSummed count rows summary → (k : ℕ) → in_rows summary (k / 64) ≡ false → in_rows rows k ≡ false
@@ -42,19 +42,22 @@ pub next-none_behind : (count : ℕ) (rows summary : List ℕ) (from : ℕ) → 
     → IsNext (in_rows rows) from None
 next-none_behind count rows summary from kept here behind k h =
     ⊎_elim (next_in_rows-skipped rows from here k h)
-        (λ later. empty_row count rows summary kept k (behind (k / 64) (omega arith))) (cases_lt k ((from / 64 + 1) * 64))
+    (λ later. empty_row count rows summary kept k (behind (k / 64) (omega arith))) (cases_lt k ((from / 64 + 1) * 64))
 
 -- no number in this row, and the first of a later one
 pub next-in_later : (count : ℕ) (rows summary : List ℕ) (from row bit : ℕ) → IsSummed count rows summary → IsNext (has_bit (get_or rows (from / 64) 0)) (from % 64) None → IsNext (in_rows summary) (from / 64 + 1) (Some row)
     → bit < 64 → IsNext (has_bit (get_or rows row 0)) 0 (Some bit) → IsNext (in_rows rows) from (Some (row * 64 + bit))
-next-in_later count rows summary from row bit kept here behind within least =
-    (omega (arith, behind.0), in_rows-of rows row bit (row * 64 + bit) refl within ∙ least.1, λ k h below.
-        ⊎_elim (next_in_rows-skipped rows from here k h)
-            (λ later. ⊎_elim
-                (λ (earlier : k < row * 64). empty_row count rows summary kept k (behind.2 (k / 64) (omega arith) (omega arith)))
-                (λ (same : row * 64 ≤ k). in_rows-of rows row (k - row * 64) k (omega arith) (omega arith) ∙ least.2 (k - row * 64) (omega arith) (omega arith))
-                (cases_lt k (row * 64)))
-            (cases_lt k ((from / 64 + 1) * 64)))
+next-in_later count rows summary from row bit kept here behind within least = (
+  omega (arith, behind.0),
+  in_rows-of rows row bit (row * 64 + bit) refl within ∙ least.1,
+  λ k h below.
+      ⊎_elim (next_in_rows-skipped rows from here k h)
+      (λ later. ⊎_elim
+      (λ (earlier : k < row * 64). empty_row count rows summary kept k (behind.2 (k / 64) (omega arith) (omega arith)))
+      (λ (same : row * 64 ≤ k). in_rows-of rows row (k - row * 64) k (omega arith) (omega arith) ∙ least.2 (k - row * 64) (omega arith) (omega arith))
+      (cases_lt k (row * 64)))
+      (cases_lt k ((from / 64 + 1) * 64)),
+)
 
 -- what it is to put a number into rows
 pub record Puts (rows after : List ℕ) (number : ℕ) : Type 0 where
@@ -76,20 +79,20 @@ IsSummed-put count rows summary after summary_after number below kept put noted 
   exact = λ row. ⊎_elim
       (λ (e : row ≡ number / 64). ap (in_rows summary_after) e ∙ noted.set_there ∙ sym (ap (λ r. nat_lt 0 (get_or after r 0)) e ∙ lt-ltb 0 (get_or after (number / 64) 0) put.some))
       (λ (apart : row ≡ number / 64 → ⊥). noted.others row apart ∙ kept.exact row ∙ ap (nat_lt 0) (sym (put.other_rows row apart)))
-      (cases_eq row (number / 64))
+      (cases_eq row (number / 64));
 }
 
 pub flags_of-put : (count : ℕ) (rows after : List ℕ) (number : ℕ) → number < count → Puts rows after number → flags_of count after ≡ set (flags_of count rows) number true
 flags_of-put count rows after number below put =
     let lengths : length (flags_of count after) ≡ length (set (flags_of count rows) number true) =
-        length-flags_of count after ∙ sym (length-set (flags_of count rows) number true ∙ length-flags_of count rows) in
+    length-flags_of count after ∙ sym (length-set (flags_of count rows) number true ∙ length-flags_of count rows) in
     let there : number < length (flags_of count rows) = omega (arith, length-flags_of count rows) in
     ext_get_or false (flags_of count after) (set (flags_of count rows) number true) lengths (λ k h.
-        let inside : k < count = omega (arith, length-flags_of count after, h) in
-        flag-inside count after k inside ∙ ⊎_elim
-            (λ (e : k ≡ number). ap (in_rows after) e ∙ put.set_there ∙ sym (ap (λ i. get_or (set (flags_of count rows) number true) i false) e ∙ get_or-set_same (flags_of count rows) number true false there))
-            (λ (apart : k ≡ number → ⊥). put.others k apart ∙ sym (flag-inside count rows k inside) ∙ sym (get_or-set_other (flags_of count rows) number k true false apart))
-            (cases_eq k number))
+    let inside : k < count = omega (arith, length-flags_of count after, h) in
+    flag-inside count after k inside ∙ ⊎_elim
+    (λ (e : k ≡ number). ap (in_rows after) e ∙ put.set_there ∙ sym (ap (λ i. get_or (set (flags_of count rows) number true) i false) e ∙ get_or-set_same (flags_of count rows) number true false there))
+    (λ (apart : k ≡ number → ⊥). put.others k apart ∙ sym (flag-inside count rows k inside) ∙ sym (get_or-set_other (flags_of count rows) number k true false apart))
+    (cases_eq k number))
 
 -- rows that are all 0 have no number
 in_rows-empty : (rows : List ℕ) → ((row : ℕ) → get_or rows row 0 ≡ 0) → (k : ℕ) → in_rows rows k ≡ false
@@ -98,8 +101,8 @@ in_rows-empty rows empty k = ap (λ row. has_bit row (k % 64)) (empty (k / 64)) 
 pub flags_of-empty : (count : ℕ) (rows : List ℕ) → ((row : ℕ) → get_or rows row 0 ≡ 0) → flags_of count rows ≡ replicate count false
 flags_of-empty count rows empty =
     ext_get_or false (flags_of count rows) (replicate count false) (length-flags_of count rows ∙ sym (length-replicate count false)) (λ k h.
-        let inside : k < count = omega (arith, length-flags_of count rows, h) in
-        flag-inside count rows k inside ∙ in_rows-empty rows empty k ∙ sym (get_or-replicate count k false false inside))
+    let inside : k < count = omega (arith, length-flags_of count rows, h) in
+    flag-inside count rows k inside ∙ in_rows-empty rows empty k ∙ sym (get_or-replicate count k false false inside))
 
 pub IsSummed-empty : (count : ℕ) (rows summary : List ℕ) → count ≤ 1048576 → length rows ≤ 16384 → length summary ≤ 16384 → count ≤ 64 * length rows → length rows ≤ 64 * length summary → ((row : ℕ) → get_or rows row 0 ≡ 0) → ((row : ℕ) → get_or summary row 0 ≡ 0)
     → IsSummed count rows summary
@@ -110,7 +113,7 @@ IsSummed-empty count rows summary few few_rows few_bits a_row_each a_bit_each em
   a_row_each = a_row_each;
   a_bit_each = a_bit_each;
   none_behind = λ k behind. in_rows-empty rows empty k;
-  exact = λ row. in_rows-empty summary none row ∙ sym (ap (nat_lt 0) (empty row))
+  exact = λ row. in_rows-empty summary none row ∙ sym (ap (nat_lt 0) (empty row));
 }
 
 pub get_or-zeros : (n row : ℕ) → get_or {A = ℕ} (replicate n 0) row 0 ≡ 0

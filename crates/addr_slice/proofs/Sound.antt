@@ -1,28 +1,26 @@
 -- The claims of an iteration hold its turn: the turn follows the walk, node by node.
-use Rattle.std.proofs.Common.{◌≡◌, ◌≢◌, ℕ, zero, suc, ◌+◌, ◌<◌, ◌≤◌, ℤ, pos, negsuc, Bool, true, false, ◌&&◌, ◌||◌, ◌==◌, if◌then◌else◌, IsTrue, Option, Some, None, Result, Ok, Err, List, [], ◌∷◌, ◌++◌, map, length, sum, take, set, replicate, nat_lt, ⊎_elim, refl, ap, sym, subst, ◌∙◌, arith}
-use Rattle.std.specs.Option.{option_map, option_and_then, option_map_or}
-use Rattle.std.proofs.lemmas.Bool.{false≢true, true≢false, and_parts, or_cases, eqb-true, ltb-true, cases_Bool}
+use Rattle.std.proofs.Common.{◌≡◌, ◌≢◌, ℕ, suc, ◌+◌, ℤ, pos, Bool, true, false, ◌&&◌, ◌||◌, ◌==◌, IsTrue, Option, Some, None, Result, Ok, List, [], ◌++◌, set, replicate, ⊎_elim, refl, ap, sym, subst, ◌∙◌, arith}
+use Rattle.std.specs.Option.{option_map_or}
+use Rattle.std.proofs.lemmas.Bool.{false≢true, true≢false, and_parts, or_cases, eqb-true, cases_Bool}
 use Rattle.std.proofs.lemmas.List.{get_or-set_same, get_or-set_other, length-set, length-replicate}
 use Rattle.nest_syntax.specs.declared.names.Line.{Line}
 use Rattle.nest_syntax.specs.declared.operators.Bin.{Bin}
 use Rattle.nest_syntax.specs.declared.operators.Bin.TheVariants as bin
-use Rattle.nest_syntax.specs.declared.operators.Un.{Un}
 use Rattle.nest_syntax.specs.declared.operators.Cause.{Cause}
 use Rattle.nest_syntax.specs.declared.tree.Expr.{Expr}
 use Rattle.nest_syntax.specs.declared.tree.Expr.TheVariants as expr
 use Rattle.nest_syntax.specs.Words.{apply}
-use Rattle.nest_syntax.specs.Arrays.{Array, sizes_of, located, place_in, place_of, word_number}
+use Rattle.nest_syntax.specs.Arrays.{Array, sizes_of, located, word_number}
 use Rattle.nest_syntax.specs.Value.{value, scalar_at, and_then, operate}
 use Rattle.nest_syntax.specs.Turn.{Turn, Reckoning, reckoning, operation_turn, done_with, inside, writing, Load}
 use Rattle.nest_syntax.specs.FirstForm.{is_allowed, is_arithmetic}
 use Rattle.nest_syntax.proofs.Equations.{value-number, value-scalar, value-binary, reckoning-number, reckoning-scalar, reckoning-word, reckoning-binary}
-use Rattle.addr_slice.specs.Claims.{Claim}
-use Rattle.addr_slice.specs.Walk.{Walk, nothing, trap, claim, touched, and_then_walk, walk, walk_of_write, scalars_with}
+use Rattle.addr_slice.specs.Walk.{Walk, trap, claim, touched, and_then_walk, walk, walk_of_write, scalars_with}
 use Rattle.addr_slice.specs.Within.{Within}
 use Rattle.addr_slice.proofs.Nodes.{expr_induction, allowed-scalar, allowed-word, allowed-unary, allowed-binary, allowed-choice}
 use Rattle.addr_slice.proofs.Walks.{walk-number, walk-scalar, walk-word, walk-binary, and_then_walk-trapped, and_then_walk-went_on}
 use Rattle.addr_slice.proofs.Room.{one_array}
-use Rattle.addr_slice.proofs.Held.{Each, AllClaimed, Each-append, Each-first, Each-second}
+use Rattle.addr_slice.proofs.Held.{AllClaimed, Each-first, Each-second}
 
 -- `+`, `-` and `*` always have a result, and evaluate both sides
 pub arithmetic : (o : Bin) → IsTrue (is_arithmetic o) → (left right : ℤ) → (r : ℤ) × (apply o left right ≡ Ok r)
@@ -42,7 +40,6 @@ turn-arithmetic bin.Add h left right line scalars go = refl
 turn-arithmetic bin.Sub h left right line scalars go = refl
 turn-arithmetic bin.Mul h left right line scalars go = refl
 turn-arithmetic _ h left right line scalars go = absurd (false≢true h)
-
 
 module _ (array size outer inner : ℕ) (x y : ℤ) (scalars : List ℤ) (claimed : ℕ → Bool → Bool)
     (distinct : outer ≢ inner) (of_outer : scalar_at scalars outer ≡ x) (of_inner : scalar_at scalars inner ≡ y) where
@@ -76,9 +73,12 @@ module _ (array size outer inner : ℕ) (x y : ℤ) (scalars : List ℤ) (claime
 
   plain-scalar : (name : ℕ) → PlainHeld (expr.Scalar name)
   plain-scalar name is =
-      let same = same_scalar name (sym (allowed-scalar array outer inner false name) ∙ is) in
-      (scalar_at given name, value-scalar arrays given [] name, λ line go h.
-        subst (λ (r : Reckoning). IsHeld (r line scalars go)) (sym (reckoning-scalar arrays name)) (subst (λ v. IsHeld (go v)) (sym same) h))
+      let same = same_scalar name (sym (allowed-scalar array outer inner false name) ∙ is) in (
+        scalar_at given name,
+        value-scalar arrays given [] name,
+        λ line go h.
+            subst (λ (r : Reckoning). IsHeld (r line scalars go)) (sym (reckoning-scalar arrays name)) (subst (λ v. IsHeld (go v)) (sym same) h),
+      )
 
   plain-binary : (o : Bin) (a b : Expr) → PlainHeld a → PlainHeld b → PlainHeld (expr.Binary o a b)
   plain-binary o a b p q is =
@@ -86,14 +86,15 @@ module _ (array size outer inner : ℕ) (x y : ℤ) (scalars : List ℤ) (claime
       let each = and_parts (is_allowed array outer inner a false) (is_allowed array outer inner b false) both.1 in
       let left = p each.0 in
       let right = q each.1 in
-      let result = arithmetic o both.0 left.0 right.0 in
-      (result.0,
-       value-binary arrays given [] o a b ∙ ap (λ r. and_then r (λ v. operate o v (value arrays given [] b))) left.1 ∙ ap (operate o left.0) right.1 ∙ operate-arithmetic o both.0 left.0 (Ok right.0) ∙ result.1,
-       λ line go h. subst (λ (r : Reckoning). IsHeld (r line scalars go)) (sym (reckoning-binary arrays o a b))
-          (left.2 line (λ v. operation_turn o v (reckoning arrays b) line scalars go)
+      let result = arithmetic o both.0 left.0 right.0 in (
+        result.0,
+        value-binary arrays given [] o a b ∙ ap (λ r. and_then r (λ v. operate o v (value arrays given [] b))) left.1 ∙ ap (operate o left.0) right.1 ∙ operate-arithmetic o both.0 left.0 (Ok right.0) ∙ result.1,
+        λ line go h. subst (λ (r : Reckoning). IsHeld (r line scalars go)) (sym (reckoning-binary arrays o a b))
+            (left.2 line (λ v. operation_turn o v (reckoning arrays b) line scalars go)
             (subst IsHeld (sym (turn-arithmetic o both.0 left.0 (reckoning arrays b) line scalars go))
-              (right.2 line (λ v. done_with line (apply o left.0 v) go)
-                (subst (λ (r : Result ℤ Cause). IsHeld (done_with line r go)) (sym result.1) h)))))
+            (right.2 line (λ v. done_with line (apply o left.0 v) go)
+            (subst (λ (r : Result ℤ Cause). IsHeld (done_with line r go)) (sym result.1) h)))),
+      )
 
   plain-held : (e : Expr) → PlainHeld e
   plain-held = expr_induction PlainHeld
@@ -123,9 +124,9 @@ module _ (array size outer inner : ℕ) (x y : ℤ) (scalars : List ℤ) (claime
       let plain = plain-held place parts.1 in
       let walked : walk arrays given (expr.Word name place) ≡ claimed_at false (located arrays name plain.0) = walk-word arrays given name place ∙ ap (touched arrays name false) plain.1 in
       subst (λ (r : Reckoning). IsHeld (r line scalars go)) (sym (reckoning-word arrays name place))
-        (plain.2 line (λ at. inside line (located arrays name at) (λ array n. Load array n go))
-          (read-held line go (located arrays name plain.0) (subst (λ (w : Walk). AllClaimed claimed w.claims) walked h)
-            (subst (λ (w : Walk). w.trapped ≡ false → (v : ℤ) → IsHeld (go v)) walked next)))
+      (plain.2 line (λ at. inside line (located arrays name at) (λ array n. Load array n go))
+      (read-held line go (located arrays name plain.0) (subst (λ (w : Walk). AllClaimed claimed w.claims) walked h)
+      (subst (λ (w : Walk). w.trapped ≡ false → (v : ℤ) → IsHeld (go v)) walked next)))
 
   value-held_binary : (o : Bin) (a b : Expr) → ValueHeld a → ValueHeld b → ValueHeld (expr.Binary o a b)
   value-held_binary o a b p q is h line go next =
@@ -135,19 +136,19 @@ module _ (array size outer inner : ℕ) (x y : ℤ) (scalars : List ℤ) (claime
       let each = and_parts (is_allowed array outer inner a true) (is_allowed array outer inner b true) both.1 in
       let walked = walk-binary arrays given o a b in
       subst (λ (r : Reckoning). IsHeld (r line scalars go)) (sym (reckoning-binary arrays o a b))
-        (⊎_elim
-          (λ (stops : first.trapped ≡ true).
-            p each.0 (subst (λ (w : Walk). AllClaimed claimed w.claims) (walked ∙ and_then_walk-trapped first second stops) h) line (λ v. operation_turn o v (reckoning arrays b) line scalars go)
-              (λ goes v. absurd (true≢false (sym stops ∙ goes))))
-          (λ (goes : first.trapped ≡ false).
-            let whole : walk arrays given (expr.Binary o a b) ≡ record { claims = first.claims ++ second.claims; trapped = second.trapped } = walked ∙ and_then_walk-went_on first second goes in
-            let all = subst (λ (w : Walk). AllClaimed claimed w.claims) whole h in
-            p each.0 (Each-first (λ c. IsTrue (claimed c.word c.write)) first.claims second.claims all) line (λ v. operation_turn o v (reckoning arrays b) line scalars go)
-              (λ _ left. subst IsHeld (sym (turn-arithmetic o both.0 left (reckoning arrays b) line scalars go))
-                (q each.1 (Each-second (λ c. IsTrue (claimed c.word c.write)) first.claims second.claims all) line (λ v. done_with line (apply o left v) go)
-                  (λ went right. let result = arithmetic o both.0 left right in
-                    subst (λ (r : Result ℤ Cause). IsHeld (done_with line r go)) (sym result.1) (next (ap (λ (w : Walk). w.trapped) whole ∙ went) result.0)))))
-          (cases_Bool first.trapped))
+      (⊎_elim
+      (λ (stops : first.trapped ≡ true).
+      p each.0 (subst (λ (w : Walk). AllClaimed claimed w.claims) (walked ∙ and_then_walk-trapped first second stops) h) line (λ v. operation_turn o v (reckoning arrays b) line scalars go)
+      (λ goes v. absurd (true≢false (sym stops ∙ goes))))
+      (λ (goes : first.trapped ≡ false).
+      let whole : walk arrays given (expr.Binary o a b) ≡ record { claims = first.claims ++ second.claims; trapped = second.trapped } = walked ∙ and_then_walk-went_on first second goes in
+      let all = subst (λ (w : Walk). AllClaimed claimed w.claims) whole h in
+      p each.0 (Each-first (λ c. IsTrue (claimed c.word c.write)) first.claims second.claims all) line (λ v. operation_turn o v (reckoning arrays b) line scalars go)
+      (λ _ left. subst IsHeld (sym (turn-arithmetic o both.0 left (reckoning arrays b) line scalars go))
+      (q each.1 (Each-second (λ c. IsTrue (claimed c.word c.write)) first.claims second.claims all) line (λ v. done_with line (apply o left v) go)
+      (λ went right. let result = arithmetic o both.0 left right in
+      subst (λ (r : Result ℤ Cause). IsHeld (done_with line r go)) (sym result.1) (next (ap (λ (w : Walk). w.trapped) whole ∙ went) result.0)))))
+      (cases_Bool first.trapped))
 
   value-held : (e : Expr) → ValueHeld e
   value-held = expr_induction ValueHeld
@@ -171,12 +172,12 @@ module _ (array size outer inner : ℕ) (x y : ℤ) (scalars : List ℤ) (claime
       let write = claimed_at true (located arrays array plain.0) in
       let walked : walk_of_write arrays given array place e ≡ and_then_walk reads write = ap (λ at. and_then_walk reads (touched arrays array true at)) plain.1 in
       plain.2 line (λ at. reckoning arrays e line scalars (λ v. inside line (located arrays array at) (λ array n. writing line None array n v go)))
-        (⊎_elim
-          (λ (stops : reads.trapped ≡ true).
-            value-held e value_is (subst (λ (w : Walk). AllClaimed claimed w.claims) (walked ∙ and_then_walk-trapped reads write stops) h) line (λ v. inside line (located arrays array plain.0) (λ array n. writing line None array n v go))
-              (λ goes v. absurd (true≢false (sym stops ∙ goes))))
-          (λ (goes : reads.trapped ≡ false).
-            let all = subst (λ (w : Walk). AllClaimed claimed w.claims) (walked ∙ and_then_walk-went_on reads write goes) h in
-            value-held e value_is (Each-first (λ c. IsTrue (claimed c.word c.write)) reads.claims write.claims all) line (λ v. inside line (located arrays array plain.0) (λ array n. writing line None array n v go))
-              (λ _ v. written-held line go v (located arrays array plain.0) (Each-second (λ c. IsTrue (claimed c.word c.write)) reads.claims write.claims all) rest))
-          (cases_Bool reads.trapped))
+      (⊎_elim
+      (λ (stops : reads.trapped ≡ true).
+      value-held e value_is (subst (λ (w : Walk). AllClaimed claimed w.claims) (walked ∙ and_then_walk-trapped reads write stops) h) line (λ v. inside line (located arrays array plain.0) (λ array n. writing line None array n v go))
+      (λ goes v. absurd (true≢false (sym stops ∙ goes))))
+      (λ (goes : reads.trapped ≡ false).
+      let all = subst (λ (w : Walk). AllClaimed claimed w.claims) (walked ∙ and_then_walk-went_on reads write goes) h in
+      value-held e value_is (Each-first (λ c. IsTrue (claimed c.word c.write)) reads.claims write.claims all) line (λ v. inside line (located arrays array plain.0) (λ array n. writing line None array n v go))
+      (λ _ v. written-held line go v (located arrays array plain.0) (Each-second (λ c. IsTrue (claimed c.word c.write)) reads.claims write.claims all) rest))
+      (cases_Bool reads.trapped))

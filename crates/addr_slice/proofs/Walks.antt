@@ -1,5 +1,5 @@
 -- The walk of an expression at each kind of node, and the claims of a walk put into a set.
-use Rattle.std.proofs.Common.{◌≡◌, ℕ, ℤ, Bool, true, false, if◌then◌else◌, Ok, List, [], ◌∷◌, ◌++◌, length, ◌⊎◌, ⊎_elim, ◌==◌, ◌&&◌, Result, IsTrue, refl, ap, sym, ◌∙◌}
+use Rattle.std.proofs.Common.{◌≡◌, ℕ, ℤ, Bool, true, false, if◌then◌else◌, List, [], ◌∷◌, ◌++◌, ◌⊎◌, ⊎_elim, ◌==◌, IsTrue, refl, ap, sym, ◌∙◌}
 use Rattle.std.proofs.lemmas.Bool.{and_parts, eqb-true}
 use Rattle.std.proofs.lemmas.List.{length-set}
 use Rattle.nest_syntax.specs.declared.operators.Bin.{Bin}
@@ -10,7 +10,6 @@ use Rattle.nest_syntax.specs.declared.tree.Expr.TheVariants as expr
 use Rattle.nest_syntax.specs.declared.tree.Expr.TheVariants.{rolls-Number, rolls-Scalar, rolls-Word, rolls-Binary}
 use Rattle.nest_syntax.specs.Arrays.{Array}
 use Rattle.nest_syntax.specs.Value.{value}
-use Rattle.nest_syntax.specs.declared.operators.Cause.{Cause}
 use Rattle.nest_syntax.specs.FirstForm.{is_allowed}
 use Rattle.addr_slice.specs.Claims.{Claim, Claimed, with_claim, with_claims, words_of}
 use Rattle.addr_slice.proofs.Nodes.{allowed-word}

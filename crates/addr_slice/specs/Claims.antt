@@ -56,7 +56,10 @@ clash_at first second word = (has first word true && is_claimed second word) || 
 abbrev pub Clash : Claimed → Claimed → Type 0
 Clash first second = (word : ℕ) × IsTrue (clash_at first second word)
 
--- what holds of every set of claims: as many flags for reading as for writing, and no more than a program has words
-pub record AreEven (reads writes : List Bool) : Type 0 where
+-- What holds of the flags that are kept: as many for reading as for writing, no more than a program has words, and a
+-- third list that has both.
+pub record AreEven (reads writes either : List Bool) : Type 0 where
   pub same : length writes ≡ length reads
+  pub as_many : length either ≡ length reads
   pub few : length reads ≤ 1048576
+  pub both : (word : ℕ) → is_set either word ≡ (is_set reads word || is_set writes word)

@@ -1,13 +1,13 @@
 -- The claims of an iteration of a program of the first form. They are found by a walk over its write, with the values of
 -- the two loop variables and without any word of the array: the walk knows each subscript and no word.
-use Rattle.std.specs.Prelude.{◌≡◌, ℕ, suc, ◌+◌, ℤ, pos, Bool, true, false, if◌then◌else◌, Result, Ok, Err, List, [], ◌∷◌, ◌++◌, replicate}
+use Rattle.std.specs.Prelude.{ℕ, suc, ◌+◌, ℤ, pos, Bool, true, false, if◌then◌else◌, Result, Ok, Err, List, [], ◌∷◌, ◌++◌, replicate}
 use Rattle.std.specs.Option.{option_map_or}
 use Rattle.nest_syntax.specs.declared.operators.Cause.{Cause}
 use Rattle.nest_syntax.specs.declared.tree.Expr.{Expr}
 use Rattle.nest_syntax.specs.declared.tree.Expr.TheOpen.{Expr-F}
 use Rattle.nest_syntax.specs.declared.tree.Expr.TheFolds.{para-Expr}
 use Rattle.nest_syntax.specs.Arrays.{Array, arrays_of, sizes_of, located, word_number}
-use Rattle.nest_syntax.specs.Value.{scalar_at, with_scalar, value}
+use Rattle.nest_syntax.specs.Value.{with_scalar, value}
 use Rattle.nest_syntax.specs.FirstForm.{First, decls_of}
 use Rattle.addr_slice.specs.Claims.{Claim}
 
@@ -35,7 +35,7 @@ touched arrays name write (Ok at) = option_map_or (λ (p : ℕ × ℕ). claim (w
 touched arrays name write (Err cause) = trap
 
 -- The walk of an expression, from left to right. A subscript names no word of the array: it has its value, and no claim.
--- The first form has neither unary operators nor choices.
+-- The first form has none of the operators that leave a part out (`&&`, `||`, `?:`), and no unary one.
 abbrev pub walk_node : List Array → List ℤ → Expr-F (Expr × Walk) → Walk
 walk_node arrays scalars (Expr-F.Number n) = nothing
 walk_node arrays scalars (Expr-F.Scalar name) = nothing

@@ -1,6 +1,6 @@
 -- That claims hold a turn: whatever words it reads, each word that it reads is claimed for reading and each word that it
 -- writes for writing.
-use Rattle.std.specs.Prelude.{◌≡◌, ℕ, ◌≤◌, ℤ, Bool, true, false, IsTrue, List, [], ◌∷◌}
+use Rattle.std.specs.Prelude.{◌≡◌, ℕ, ◌≤◌, ℤ, Bool, true, false, IsTrue, List}
 use Rattle.nest_syntax.specs.declared.tree.Program.{Program}
 use Rattle.nest_syntax.specs.Arrays.{arrays_of, sizes_of, word_number}
 use Rattle.nest_syntax.specs.Value.{scalar_at}

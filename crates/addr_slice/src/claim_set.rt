@@ -13,6 +13,8 @@ use std::marker::Model;
 pub struct Claims {
     reads: WordSet,
     writes: WordSet,
+    // What is claimed at all: a walk then passes over what neither of the two has.
+    either: WordSet,
 }
 
 impl Model for Claims {
@@ -23,11 +25,12 @@ impl Model for Claims {
 
     ghost view = { λ c. record { reads = c.reads; writes = c.writes } };
 
-    ghost invariant = { λ c. AreEven c.reads c.writes };
+    ghost invariant = { λ c. AreEven c.reads c.writes c.either };
 }
 
 impl Claims {
-    /// No claim, with room for the words of arrays of these lengths, at most 1,048,576 together. Costs as many bits.
+    /// No claim, with room for the words of arrays of these lengths, at most 1,048,576 together. Takes three bits for
+    /// each.
     pub fn with_room(alloc: Global, lengths: &[u64]) -> Result<Claims, NoMemory>
         requires { sum lengths.now ≤ most_words }
         ensures { IfOk result (λ made. made ≡ no_claims (sum lengths.now)) }
@@ -36,6 +39,7 @@ impl Claims {
         Ok(Claims {
             reads: WordSet::empty(alloc, words)?,
             writes: WordSet::empty(alloc, words)?,
+            either: WordSet::empty(alloc, words)?,
         })
     }
 
@@ -60,21 +64,15 @@ impl Claims {
     }
 
     /// The least word not below the given one that is claimed for reading or for writing. None comes exactly where there
-    /// is none. It passes 4,096 words at a time where none is claimed; a walk over all claimed words costs as much as
-    /// they are, and one step for each 4,096 words of the program.
+    /// is none. A constant cost, and one step for each 4,096 words that it passes over: a walk over all claimed words
+    /// costs as much as there are, and one step for each 4,096 words of the program.
     pub fn next_from(&self, word: u32) -> Option<u32>
         ensures next { IsNext (is_claimed self.now) word result }
         ensures within { IfSome result (λ next. next < words_of self.now) }
         ensures few { words_of self.now ≤ most_words }
     {
-        let read = self.reads.next_from(word as usize);
-        let write = self.writes.next_from(word as usize);
-        match (read, write) {
-            (Some(read), Some(write)) => Some(read.min(write) as u32),
-            (Some(read), None) => Some(read as u32),
-            (None, Some(write)) => Some(write as u32),
-            (None, None) => None,
-        }
+        let next = self.either.next_from(word as usize)?;
+        Some(next as u32)
     }
 
     /// Claims a word that there is room for, for writing or for reading. A constant cost.
@@ -87,6 +85,7 @@ impl Claims {
         } else {
             self.reads.insert(word as usize);
         }
+        self.either.insert(word as usize);
     }
 
     /// Forgets all claims. Costs as much as there are, and one step for each 4,096 words of the program.
@@ -95,6 +94,7 @@ impl Claims {
     {
         self.reads.clear();
         self.writes.clear();
+        self.either.clear();
     }
 
     /// Whether two sets of claims conflict: some word is in both, and for writing in one. Costs a walk over the claims

@@ -4,5 +4,4 @@ ghost use Rattle.addr_slice.specs.Within.{ClaimsHoldTurns};
 /// each word that it reads is claimed for reading, and each word that it writes for writing.
 pub fn claims_hold_turns()
     ensures { ClaimsHoldTurns }
-{
-}
+{}

@@ -5,11 +5,14 @@
 #![tactic(auto)]
 
 mod bits;
-mod walk;
 mod claim_set;
 mod law;
+mod walk;
 mod word_set;
 
 pub use claim_set::Claims;
 pub use law::claims_hold_turns;
 pub use walk::claims;
+
+#[cfg(test)]
+mod tests;

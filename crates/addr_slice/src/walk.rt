@@ -23,7 +23,8 @@ use word_store::apply;
 pub fn claims(program: &Program, outer: i64, inner: i64, into: &mut Claims)
     requires form { IsFirstForm program.now }
     requires room { sum (sizes_of (arrays_of program.now.decls)) ≤ words_of into.old }
-    ensures { (form : IsFirstForm program.now)
+    ensures room { words_of into.new ≡ words_of into.old }
+    ensures claims { (form : IsFirstForm program.now)
         → into.new ≡ with_claims (no_claims (words_of into.old)) (claims_of form.first outer inner).claims }
 {
     into.clear();
@@ -93,6 +94,7 @@ impl Iteration {
         requires value { IsTrue (is_allowed self.now.array self.now.outer_name self.now.inner_name value.now true) }
         requires room { self.now.length ≤ words_of into.old }
         requires few { self.now.length ≤ 1048576 }
+        ensures room { words_of into.new ≡ words_of into.old }
         ensures claims { into.new ≡ with_claims into.old (walk_of_write (arrays_in self.now) (scalars_in self.now) self.now.array place.now value.now).claims }
     {
         self.walk(value, into)?;

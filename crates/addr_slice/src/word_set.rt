@@ -1,7 +1,9 @@
 ghost use Rattle.std.specs.Prelude.{◌≡◌, ◌<◌, ◌≤◌, true, false, IfOk, length, replicate, slice_set};
 ghost use Rattle.addr_slice.specs.Claims.{is_set, IsNext};
 
-use crate::bits::{ROW, empty_all_rows, empty_rows, in_rows, least_bit, next_bit, next_in_rows, put_in_rows};
+use crate::bits::{
+    ROW, empty_all_rows, empty_rows, in_rows, least_bit, next_bit, next_in_rows, put_in_rows,
+};
 use nest_syntax::NoMemory;
 use std::alloc::Global;
 use std::marker::Model;

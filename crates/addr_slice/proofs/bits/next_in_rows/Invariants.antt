@@ -5,7 +5,7 @@ use Rattle.addr_slice.proofs.bits.next_in_rows.Given as goal
 abbrev pub invariant-loop-at : goal.invariant-loop-at
 invariant-loop-at l = record {
   forward : l.fn.from ≤ l.at;
-  passed : (k : ℕ) → l.fn.from ≤ k → k < l.at → in_rows l.rows k ≡ false
+  passed : (k : ℕ) → l.fn.from ≤ k → k < l.at → in_rows l.rows k ≡ false;
 }
 
 abbrev pub decreases-loop-at : goal.decreases-loop-at

@@ -1,10 +1,10 @@
-use Rattle.std.proofs.Common.{◌≡◌, ℕ, List, [], ◌++◌, ap, sym, subst, ◌∙◌, true, false, is_err, Ok, Err, IsTrue, SFits, w64, rules}
+use Rattle.std.proofs.Common.{◌≡◌, ℕ, [], ◌++◌, ap, sym, subst, ◌∙◌, true, false, Ok, IsTrue, SFits, w64, rules}
 use Rattle.std.proofs.lemmas.Int.{to_z-of_z}
 use Rattle.nest_syntax.specs.declared.tree.Expr.{Expr}
 use Rattle.nest_syntax.specs.FirstForm.{is_allowed}
 use Rattle.nest_syntax.specs.Value.{value}
-use Rattle.addr_slice.specs.Claims.{Claim, with_claims}
-use Rattle.addr_slice.specs.Walk.{Walk, walk, nothing, touched, and_then_walk}
+use Rattle.addr_slice.specs.Claims.{with_claims}
+use Rattle.addr_slice.specs.Walk.{Walk, walk, touched, and_then_walk}
 use Rattle.addr_slice.specs.Iteration.{arrays_in, scalars_in}
 use Rattle.addr_slice.proofs.Walks.{walk-of_variable, walk-word, array-of_word, walk-binary, with_claims-append, and_then_walk-trapped, and_then_walk-went_on}
 use Rattle.addr_slice.proofs.walk.Iteration.+walk.Goals as goal

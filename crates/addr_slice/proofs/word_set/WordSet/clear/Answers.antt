@@ -1,4 +1,4 @@
-use Rattle.std.proofs.Common.{◌≡◌, ◌<◌, ◌*◌, ℕ, List, length, get_or, false, replicate, ap, sym, subst, ◌∙◌, arith}
+use Rattle.std.proofs.Common.{◌≡◌, ℕ, List, length, false, replicate, ap, sym, subst, ◌∙◌, arith}
 use Rattle.std.specs.Vec.{with_items}
 use Rattle.std.proofs.lemmas.List.{with_items_is}
 use Rattle.addr_slice.specs.WordSet.{flags_of, IsSummed}
@@ -25,9 +25,9 @@ pub invariant_of-self : goal.invariant_of-self
 invariant_of-self c =
     let kept = c.self.invariant in
     subst (λ (rows : List ℕ). IsSummed c.self.inside.count rows (with_items c.self.inside.summary c.empty_all_rows.new.rows).items) (sym (rows_are c))
-        (subst (λ (summary : List ℕ). IsSummed c.self.inside.count c.empty_rows.new.rows summary) (sym (summary_is c))
-            (IsSummed-empty c.self.inside.count c.empty_rows.new.rows c.empty_all_rows.new.rows kept.few (omega (arith, as_many_rows c, kept.few_rows)) (omega (arith, as_many_bits c, kept.few_bits))
-                (omega (arith, as_many_rows c, kept.a_row_each)) (omega (arith, as_many_rows c, as_many_bits c, kept.a_bit_each)) c.empty_rows.ensures c.empty_all_rows.ensures))
+    (subst (λ (summary : List ℕ). IsSummed c.self.inside.count c.empty_rows.new.rows summary) (sym (summary_is c))
+    (IsSummed-empty c.self.inside.count c.empty_rows.new.rows c.empty_all_rows.new.rows kept.few (omega (arith, as_many_rows c, kept.few_rows)) (omega (arith, as_many_bits c, kept.few_bits))
+    (omega (arith, as_many_rows c, kept.a_row_each)) (omega (arith, as_many_rows c, as_many_bits c, kept.a_bit_each)) c.empty_rows.ensures c.empty_all_rows.ensures))
 
 pub returns : goal.returns
 returns c =

@@ -1,4 +1,4 @@
-use Rattle.std.proofs.Common.{◌≡◌, ◌∙◌, false, sym, arith}
+use Rattle.std.proofs.Common.{◌∙◌, sym}
 use Rattle.std.proofs.lemmas.Bool.{le-ltb}
 use Rattle.addr_slice.proofs.Sets.{flag-is}
 use Rattle.addr_slice.proofs.word_set.WordSet.has.Goals as goal

@@ -1,4 +1,4 @@
-use Rattle.std.proofs.Common.{◌≡◌, ◌<◌, ◌/◌, ℕ, List, length, get_or, ap, sym, subst, ◌∙◌, set, true, arith}
+use Rattle.std.proofs.Common.{◌≡◌, ◌<◌, ◌/◌, ℕ, List, length, ap, sym, subst, ◌∙◌, set, true, arith}
 use Rattle.std.specs.Vec.{with_items}
 use Rattle.std.proofs.lemmas.List.{with_items_is}
 use Rattle.addr_slice.specs.WordSet.{flags_of, IsSummed}
@@ -19,7 +19,7 @@ module _ (c : goal.After-self-2-1) where
     other_rows = c.put_in_rows.ensures.other_rows;
     set_there = c.put_in_rows.ensures.set;
     others = c.put_in_rows.ensures.others;
-    as_many = c.put_in_rows.auto.rows
+    as_many = c.put_in_rows.auto.rows;
   }
 
   noted : Puts c.self.inside.summary.items c.put_in_rows-2.new.rows (c.args.number / 64)
@@ -28,7 +28,7 @@ module _ (c : goal.After-self-2-1) where
     other_rows = c.put_in_rows-2.ensures.other_rows;
     set_there = c.put_in_rows-2.ensures.set;
     others = c.put_in_rows-2.ensures.others;
-    as_many = c.put_in_rows-2.auto.rows
+    as_many = c.put_in_rows-2.auto.rows;
   }
 
   rows_are : (with_items c.self.inside.rows c.put_in_rows.new.rows).items ≡ c.put_in_rows.new.rows
@@ -40,8 +40,8 @@ module _ (c : goal.After-self-2-1) where
 pub invariant_of-self : goal.invariant_of-self
 invariant_of-self c =
     subst (λ (rows : List ℕ). IsSummed c.self.inside.count rows (with_items c.self.inside.summary c.put_in_rows-2.new.rows).items) (sym (rows_are c))
-        (subst (λ (summary : List ℕ). IsSummed c.self.inside.count c.put_in_rows.new.rows summary) (sym (summary_is c))
-            (IsSummed-put c.self.inside.count c.self.inside.rows.items c.self.inside.summary.items c.put_in_rows.new.rows c.put_in_rows-2.new.rows c.args.number (below c) c.self.invariant (put c) (noted c)))
+    (subst (λ (summary : List ℕ). IsSummed c.self.inside.count c.put_in_rows.new.rows summary) (sym (summary_is c))
+    (IsSummed-put c.self.inside.count c.self.inside.rows.items c.self.inside.summary.items c.put_in_rows.new.rows c.put_in_rows-2.new.rows c.args.number (below c) c.self.invariant (put c) (noted c)))
 
 pub returns : goal.returns
 returns c =
