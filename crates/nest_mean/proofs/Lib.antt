@@ -3,3 +3,7 @@ pub mod Names
 pub mod Parts
 pub mod Statements
 pub mod Kept
+pub mod Rounds
+pub mod Walk
+pub mod Sameness
+pub mod Whole

@@ -16,13 +16,14 @@ use Rattle.nest_syntax.specs.declared.tree.Stmt.TheOpen.{Stmt-F}
 use Rattle.nest_syntax.specs.Words.{is_zero, apply, operation_of, assigned, turns, counted, variable}
 use Rattle.nest_syntax.specs.Arrays.{Array, array_of, sizes_of, place_of, located, word_number, word_at, with_word}
 use Rattle.nest_syntax.specs.Value.{value, scalar_at, with_scalar}
-use Rattle.nest_syntax.specs.Turn.{Turn, Store, Op as Op', Go, Effect, reckoning, done_with, inside, assigning, writing, sequence, repeat, looping, choose, effect, effect_node, loop_effect}
+use Rattle.nest_syntax.specs.Turn.{Turn, Finished, Store, Op as Op', Go, Effect, reckoning, done_with, inside, assigning, writing, sequence, repeat, looping, choose, effect, effect_node, loop_effect}
 use Rattle.nest_syntax.specs.Reads.{Ended, Stopped, on_words}
 use Rattle.nest_syntax.proofs.Equations.{arm_effect, arm_effect-is, loop_effect-is, effect-declare, effect-assign, effect-write, effect-if, effect-loop}
 use Rattle.nest_syntax.proofs.Reckoned.{answered, done_with-answered, reckoned}
 use Rattle.word_store.specs.Memory.{Memory, number_at, loaded, stored}
 use Rattle.nest_mean.specs.declared.bodies.TurnTrap.{TurnTrap}
 use Rattle.nest_mean.specs.NamesChanged.{joined, changed, changed_in_arm, changed_in_loop, names_changed, is_among, KeepsOthers}
+use Rattle.nest_mean.specs.TurnRun.{ended}
 use Rattle.nest_mean.specs.TurnParts.{went_on_with, at_line, wrote, Runs, arm_taken, RunsArms}
 use Rattle.nest_mean.proofs.Names.{among_left, among_right, among_here, among_behind, among_part, keeps_same, keeps_then, keeps_more, keeps_set, changed-declare, changed-assign, changed-write, changed-if, changed-loop, changed_in_arm-is, changed_in_loop-is}
 
@@ -236,3 +237,9 @@ module _ (arrays : List Array) where
     turns_end k s₀ m₀ s m over left =
         let over' : n - k ≡ 0 = omega arith in
         none_left all_turns (turns_from k) (name ∷ names_changed body) s₀ m₀ s m (ap (λ l. repeat l k variable_in name (sequence (map (effect arrays) body))) over') left
+
+  -- an effect that is the whole of a turn
+  pub runs_alone : (does : Effect) (names : List ℕ) (result : Result (Unit {0}) TurnTrap) (s : List ℤ) (m : Memory) (s' : List ℤ) (m' : Memory)
+      → Runs arrays does names result s m s' m' → on_words (sizes_of arrays) (does s (λ after. Finished)) m.words ≡ ended result m'.words
+  runs_alone does names (Ok done) s m s' m' runs = runs.same (λ after. Finished)
+  runs_alone does names (Err trap) s m s' m' runs = runs.same (λ after. Finished)

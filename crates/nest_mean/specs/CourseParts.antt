@@ -5,17 +5,20 @@ use Rattle.std.specs.List.{list_any}
 use Rattle.nest_syntax.specs.declared.operators.Cause.{Cause}
 use Rattle.nest_syntax.specs.declared.names.Line.{Line}
 use Rattle.nest_syntax.specs.declared.place.Place.{Place}
+use Rattle.nest_syntax.specs.declared.operators.Op.{Op}
+use Rattle.nest_syntax.specs.declared.tree.Decl.{Decl}
 use Rattle.nest_syntax.specs.declared.tree.Expr.{Expr}
 use Rattle.nest_syntax.specs.declared.tree.Stmt.{Stmt}
 use Rattle.nest_syntax.specs.declared.tree.Loop.{Loop}
-use Rattle.nest_syntax.specs.Words.{turns, counted}
-use Rattle.nest_syntax.specs.Arrays.{Array, sizes_of}
-use Rattle.nest_syntax.specs.Value.{value, and_then, names_written}
-use Rattle.nest_syntax.specs.Course.{Setting, Course, Iterate, Item, Tested, in_order, chosen, item_of}
-use Rattle.nest_syntax.specs.Outcome.{Ending, TrappedAt, body_at, turn_in, ending_from}
+use Rattle.nest_syntax.specs.Words.{turns, counted, assigned, operation_of, variable}
+use Rattle.nest_syntax.specs.Arrays.{Array, arrays_of, sizes_of}
+use Rattle.nest_syntax.specs.Value.{value, and_then, names_written, scalar_at, with_scalar}
+use Rattle.nest_syntax.specs.Course.{Setting, Course, Iterate, Item, Tested, in_order, chosen, iterations, region_turns, item_of}
+use Rattle.nest_syntax.specs.Outcome.{Ending, TrappedAt, place_of_trap, body_at, turn_in, ending_from}
 use Rattle.word_store.specs.Memory.{Memory}
-use Rattle.nest_mean.specs.declared.courses.Stop.{Stop}
-use Rattle.nest_mean.specs.declared.courses.Stop.TheVariants as stop
+use Rattle.nest_mean.specs.declared.bodies.TurnTrap.{TurnTrap}
+use Rattle.nest_mean.specs.declared.stops.Stop.{Stop}
+use Rattle.nest_mean.specs.declared.stops.Stop.TheVariants as stop
 use Rattle.nest_mean.specs.NamesChanged.{KeepsOthers}
 
 -- the words on which an event evaluates these expressions: the words at that moment where one of them names a written
@@ -27,10 +30,32 @@ event_words arrays exprs present opening = if list_any (names_written arrays) ex
 abbrev pub header : List Array → Loop → List ℤ → List ℤ → Result (ℤ × ℕ) Cause
 header arrays l scalars words = and_then (value arrays scalars words l.low) (λ low. and_then (value arrays scalars words l.high) (λ high. and_then (counted (turns low high l.step l.through)) (λ count. Ok (low, count))))
 
--- a scheduler's result, or its trap
-abbrev pub at_scheduler : {A : Type 0} → Line → ℕ → Result A Cause → Result A Place
-at_scheduler line number (Ok result) = Ok result
-at_scheduler line number (Err cause) = Err (record { cause = cause; line = line; number = number; by_scheduler = true })
+-- the scalars after an assignment among the items
+abbrev pub scalars_changed : List Array → ℕ → Op → Expr → List ℤ → List ℤ → Result (List ℤ) Cause
+scalars_changed arrays name op expr scalars words = and_then (value arrays scalars words expr) (λ right. and_then (assigned (operation_of op) (scalar_at scalars name) right) (λ new. Ok (with_scalar scalars name new)))
+
+-- what a call answered that changes scalars
+abbrev pub with_result : Result (Unit {0}) Cause → List ℤ → Result (List ℤ) Cause
+with_result (Ok done) scalars = Ok scalars
+with_result (Err cause) scalars = Err cause
+
+-- a trap of the scheduler, as a call answers it
+abbrev pub at_scheduler : Line → ℕ → Result (Unit {0}) Cause → Result (Unit {0}) Stop
+at_scheduler line number (Ok done) = Ok done
+at_scheduler line number (Err cause) = Err (stop.Trapped (place_of_trap cause line number true))
+
+-- a trap of iteration `number`
+abbrev pub at_iteration : ℕ → Result (Unit {0}) TurnTrap → Result (Unit {0}) Stop
+at_iteration number (Ok done) = Ok done
+at_iteration number (Err trap) = Err (stop.Trapped (place_of_trap trap.cause trap.line number false))
+
+abbrev pub next_number : ℕ → Result (Unit {0}) TurnTrap → ℕ
+next_number number (Ok done) = number + 1
+next_number number (Err trap) = number
+
+-- the arrays of declarations, and the opening words
+abbrev pub setting_on : List Decl → List ℤ → Setting
+setting_on decls words = record { arrays = arrays_of decls; words = words }
 
 -- from this number on the bodies are these
 abbrev pub Stand : List (List Stmt) → ℕ → List (List Stmt) → Type 0
@@ -80,3 +105,19 @@ pub record Iterates (arrays : List Array) (body : List Stmt) (names : List ℕ) 
 -- the items of a list of statements, in order
 abbrev pub items_in : Setting → List Stmt → Item
 items_in setting stmts = in_order (map (item_of setting) stmts)
+
+-- all iterations of an invocation whose bounds are known were carried out, and the scalars are what they were
+pub record IteratesAll (arrays : List Array) (invoked : Loop) (low : ℤ) (count : ℕ) (result : Result (Unit {0}) Stop) (scalars : List ℤ) (number : ℕ) (memory : Memory) (scalars' : List ℤ) (number' : ℕ) (memory' : Memory) : Type 0 where
+  pub same : (bodies : List (List Stmt)) (at : ℕ) → body_at bodies at ≡ invoked.body → (go : List ℤ → Course)
+      → Reaches result (λ done. ending_from (sizes_of arrays) (turn_in arrays bodies) (go scalars') number' memory'.words)
+          (ending_from (sizes_of arrays) (turn_in arrays bodies) (iterations count 0 at (λ k. with_scalar scalars invoked.name (variable low invoked.step k)) (go scalars)) number memory.words)
+  pub sizes : memory'.sizes ≡ memory.sizes
+  pub few : number' ≤ number + count
+
+-- all turns of a region whose bounds are known were carried out
+pub record PassesTurns (arrays : List Array) (items : Item) (region : Loop) (low : ℤ) (count : ℕ) (result : Result (Unit {0}) Stop) (scalars : List ℤ) (number : ℕ) (memory : Memory) (scalars' : List ℤ) (number' : ℕ) (memory' : Memory) : Type 0 where
+  pub same : (bodies : List (List Stmt)) (first : ℕ) → Stand bodies first items.bodies → (go : List ℤ → Course)
+      → Reaches result (λ done. ending_from (sizes_of arrays) (turn_in arrays bodies) (go scalars') number' memory'.words)
+          (ending_from (sizes_of arrays) (turn_in arrays bodies) (region_turns count 0 (variable low region.step) region.name (items.events first) scalars go) number memory.words)
+  pub sizes : memory'.sizes ≡ memory.sizes
+  pub few : number' ≤ number + count * (16777216 * length items.bodies)

@@ -4,13 +4,13 @@ ghost use Rattle.std.specs.Int.{w64};
 ghost use Rattle.nest_syntax.specs.Words.{variable};
 ghost use Rattle.nest_syntax.specs.Arrays.{arrays_of, sizes_of};
 ghost use Rattle.nest_syntax.specs.Value.{value, names_written, is_written};
-ghost use Rattle.nest_mean.specs.CourseParts.{event_words, header};
+ghost use Rattle.nest_mean.specs.CourseParts.{event_words, header, with_result, scalars_changed};
 
 use crate::bodies::turns_of;
 use crate::expressions::eval;
 use crate::values::Scalars;
-use nest_syntax::{Cause, Decl, Expr, Loop};
-use word_store::Words;
+use nest_syntax::{Cause, Decl, Expr, Loop, Op};
+use word_store::{Words, assign};
 
 /// What the scheduler evaluates. An expression that names a written array is a drain: it reads the present words. Any
 /// other reads `const` words alone, which are what they were at the opening.
@@ -85,6 +85,30 @@ fn header_on(
     let high = eval(&headed.high, scalars, words, decls)?;
     let count = turns_of(low, high, headed.step, headed.through)?;
     Ok((low, count))
+}
+
+/// `=` and `op=` of a scalar among the items. A trap leaves the scalars as they were.
+pub(crate) fn change_scheduled(
+    name: u32,
+    op: Op,
+    value: &Expr,
+    scalars: &mut Scalars,
+    words: &Words,
+    opening: &Words,
+    decls: &[Decl],
+) -> Result<(), Cause>
+    requires few { length decls.now < 2 ^ 32 }
+    requires sizes { words.now.sizes ≡ sizes_of (arrays_of decls.now) }
+    requires opening { opening.now.sizes ≡ sizes_of (arrays_of decls.now) }
+    ensures {
+        with_result result scalars.new ≡ scalars_changed (arrays_of decls.now) name op value.now scalars.old
+            (event_words (arrays_of decls.now) (value.now ∷ []) words.now.words opening.now.words)
+    }
+{
+    let right = scheduled(value, scalars, words, opening, decls)?;
+    let new = assign(op, scalars.get(name), right)?;
+    scalars.set(name, new);
+    Ok(())
 }
 
 // Whether an expression names a written array.
