@@ -136,7 +136,7 @@ module _ {S : Type 0} (step : S → ℕ → Option S) where
 
   -- one that stopped behind other looks
   pub stops_behind : (s t u : S) (history longer longest first looks : List ℕ) → GoesOn step s history first t longer → StopsIn step t longer looks u longest
-    → StopsIn step s history (first ++ looks) u longest
+      → StopsIn step s history (first ++ looks) u longest
   stops_behind s t u history longer longest first looks goes stops = record {
     passed = first ++ stops.passed;
     left = stops.left;
@@ -146,10 +146,10 @@ module _ {S : Type 0} (step : S → ℕ → Option S) where
 
   -- one that stopped within a round, behind a schedule and rounds
   pub stops_in_round : (s t u : S) (n k m : ℕ) (history longer longest schedule : List ℕ) → GoesOn step s history (schedule ++ rounds n k) t longer → StopsIn step t longer (up_to n) u longest
-    → k < m → StopsIn step s history (schedule ++ rounds n m) u longest
+      → k < m → StopsIn step s history (schedule ++ rounds n m) u longest
   stops_in_round s t u n k m history longer longest schedule goes stops below =
       let (more, split) = rounds_front n (suc k) m (omega arith) in
       let there = stops_more s u history ((schedule ++ rounds n k) ++ up_to n) more longest (stops_behind s t u history longer longest (schedule ++ rounds n k) (up_to n) goes stops) in
       let same : ((schedule ++ rounds n k) ++ up_to n) ++ more ≡ schedule ++ rounds n m =
-          ap (λ (l : List ℕ). l ++ more) (append_assoc schedule (rounds n k) (up_to n)) ∙ append_assoc schedule (rounds n (suc k)) more ∙ ap (λ (l : List ℕ). schedule ++ l) (sym split) in
+      ap (λ (l : List ℕ). l ++ more) (append_assoc schedule (rounds n k) (up_to n)) ∙ append_assoc schedule (rounds n (suc k)) more ∙ ap (λ (l : List ℕ). schedule ++ l) (sym split) in
       subst (λ (l : List ℕ). StopsIn step s history l u longest) same there

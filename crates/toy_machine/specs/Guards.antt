@@ -1,9 +1,8 @@
 -- What holds where a move is enabled, and what a step is.
-use Rattle.std.specs.Prelude.{◌≡◌, ℕ, ◌<◌, ◌≤◌, ◌%◌, true, false, Option, None, Some, refl}
+use Rattle.std.specs.Prelude.{◌≡◌, ℕ, ◌<◌, ◌≤◌, ◌%◌, false, Option, None, Some, refl}
 use Rattle.std.specs.Option.{option_map, option_map_or}
 use Rattle.std.proofs.Common.{arith, ap}
 use Rattle.progress_board.specs.declared.actors.Made.{Made}
-use Rattle.std.proofs.lemmas.Grind.{common_steps}
 use Rattle.std.proofs.lemmas.Bool.Decides.{nat_tests}
 use Rattle.progress_board.specs.declared.actors.Row.{Row}
 use Rattle.progress_board.specs.declared.actors.Row.TheVariants.{Dispatch, Halt, Take, End}

@@ -15,7 +15,7 @@ use Rattle.progress_board.proofs.Runs.{reached_step}
 use Rattle.toy_machine.specs.State.{State}
 use Rattle.toy_machine.specs.Tokens.{Move, Hands, Halts, Takes, move_of, state_after, step, has_ended, answer, asked, is_finished, measure, opening, no_facts}
 use Rattle.toy_machine.specs.Kept.{IsSound, IsKept}
-use Rattle.toy_machine.specs.Guards.{Guard, IsMoved, moved, guarded}
+use Rattle.toy_machine.specs.Guards.{Guard, moved, guarded}
 
 -- job and options stay
 same_job : (s : State) (move : Move) → (state_after s move).job ≡ s.job
@@ -84,7 +84,7 @@ pub stays : (s t : State) (actor other : ℕ) → asked s actor ≡ Ended → st
 stays s t actor other ended e =
     let m = moved s other t e in
     subst (λ (u : State). asked u actor ≡ Ended) m.new
-      (is_ended (state_after s m.move) actor (stays_move s actor other m.move m.guard (ended_is (has_ended s actor) (move_of s actor) ended)))
+    (is_ended (state_after s m.move) actor (stays_move s actor other m.move m.guard (ended_is (has_ended s actor) (move_of s actor) ended)))
 
 -- the machine is finished exactly where all have ended their parts
 all_ended : (s : State) (actor : ℕ) → is_finished s ≡ true → has_ended s actor ≡ true
@@ -94,9 +94,10 @@ finished_from : (s : State) → 1 ≤ s.options.workers → has_ended s 0 ≡ tr
 finished_from s some ended = grind (arith, nat_tests)
 
 pub finishes : (s : State) → 1 ≤ s.options.workers → (is_finished s ≡ true) ↔ AllEnded asked s (actors_of s.options)
-finishes s some =
-    (λ finished. λ actor below. is_ended s actor (all_ended s actor finished),
-     λ all. finished_from s some (ended_is (has_ended s 0) (move_of s 0) (all 0 (omega arith))))
+finishes s some = (
+  λ finished. λ actor below. is_ended s actor (all_ended s actor finished),
+  λ all. finished_from s some (ended_is (has_ended s 0) (move_of s 0) (all 0 (omega arith))),
+)
 
 -- a machine that isn't finished has a step
 some_of : (s : State) (o : Option Move) (move : Move) → o ≡ Some move → is_some (option_map (state_after s) o) ≡ true
@@ -150,8 +151,8 @@ kept_move s actor move facts e kept = record {
   sound = sound_move s actor move (guarded s actor move e) kept.sound;
   reached =
       let opened : opening s.job s.options ≡ opening (state_after s move).job (state_after s move).options =
-          ap (λ (j : Nest). opening j s.options) (sym (same_job s move)) ∙ ap (λ (o : Options). opening (state_after s move).job o) (sym (same_options s move)) in
+      ap (λ (j : Nest). opening j s.options) (sym (same_job s move)) ∙ ap (λ (o : Options). opening (state_after s move).job o) (sym (same_options s move)) in
       subst (λ (v : State). IsReached step v (state_after s move)) opened
-        (reached_step step (opening s.job s.options) s (state_after s move) actor kept.reached (rw e refl));
+      (reached_step step (opening s.job s.options) s (state_after s move) actor kept.reached (rw e refl));
   counted = kept.counted ∙ ap no_facts (sym (same_options s move));
 }

@@ -84,8 +84,17 @@ ending_of s = if is_finished s then Done else Unfinished
 -- no step of the relay counts anything
 abbrev pub no_facts : Options → Facts
 no_facts options = record {
-  options = options; invocations = 0; iterations = 0; drains = 0; waits = 0; crossing = 0; first_waits = replicate 64 None;
-  segments = 0; checks = 0; rollbacks = 0; first_rollbacks = replicate 64 None
+  options = options;
+  invocations = 0;
+  iterations = 0;
+  drains = 0;
+  waits = 0;
+  crossing = 0;
+  first_waits = replicate 64 None;
+  segments = 0;
+  checks = 0;
+  rollbacks = 0;
+  first_rollbacks = replicate 64 None;
 }
 
 -- steps that are left: handing out and taking for each token that isn't handed out, taking for the others, and halting

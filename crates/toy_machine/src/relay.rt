@@ -62,7 +62,9 @@ impl Relay {
         ensures { result ≡ option_map row_of (move_of self.now actor) }
     {
         if actor < self.options.workers {
-            if self.taken < self.handed && self.taken % self.options.workers as u16 == actor as u16 {
+            if self.taken < self.handed
+                && self.taken % self.options.workers as u16 == actor as u16
+            {
                 return Some(Row::Take);
             }
             return None;
@@ -127,7 +129,7 @@ impl Relay {
         ensures { result ≡ has_ended self.now actor }
     {
         if actor < self.options.workers {
-            self.halted && self.taken == self.handed
+            self.is_over()
         } else {
             actor > self.options.workers || self.halted
         }

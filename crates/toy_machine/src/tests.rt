@@ -76,6 +76,19 @@ fn make_all<M: Machine>(rt: &impl Abort, machine: &mut M, history: &[u8]) {
     }
 }
 
+// Whether a history finishes a fresh machine.
+fn finishes(
+    rt: &impl Abort,
+    alloc: Global,
+    workers: u8,
+    queue: u16,
+    history: &[u8],
+) -> Result<bool, NoMemory> {
+    let mut machine = open(rt, alloc, workers, queue)?;
+    make_all(rt, &mut machine, history);
+    Ok(machine.finished())
+}
+
 // Workers, the room of a queue, the schedule, and the steps, found by hand.
 #[test]
 fn the_rotation_goes_on_behind_the_schedule(rt: HostRuntime) -> Result<(), Fail> {
@@ -90,35 +103,26 @@ fn the_rotation_goes_on_behind_the_schedule(rt: HostRuntime) -> Result<(), Fail>
         let mut machine = open(&rt, rt.alloc(), workers, queue)?;
         let mut history = Vec::new(rt.alloc());
         lone_run(&mut machine, schedule, &mut history)?;
-        assert_eq!(rt; history.as_slice(), wanted, "{workers} workers, room {queue}");
-        assert!(rt; machine.finished());
-        assert_eq!(rt; machine.ending(), Ending::Done);
-
-        // A finished machine makes no step more.
-        lone_run(&mut machine, schedule, &mut history)?;
-        assert_eq!(rt; history.as_slice(), wanted, "{workers} workers, room {queue}");
-
-        let mut again = open(&rt, rt.alloc(), workers, queue)?;
-        make_all(&rt, &mut again, wanted);
-        assert!(rt; again.finished());
+        assert_eq!(rt;
+            history.as_slice(),
+            wanted,
+            "{workers} workers, room {queue}"
+        );
+        assert!(rt; finishes(&rt, rt.alloc(), workers, queue, wanted)?);
     }
     Ok(())
 }
 
-// The steps are appended to what the history has. Where memory runs out, the steps that were made are in it, and the
-// run is taken up again.
+// Where memory runs out, the steps that were made are in the history, and the run is taken up again.
 #[test]
 fn a_history_agrees_with_its_machine(rt: HostRuntime) -> Result<(), Fail> {
     let mut machine = open(&rt, rt.alloc(), 2, 40)?;
     let mut history = Vec::new(rt.alloc());
-    while lone_run(&mut machine, &[2, 2], &mut history).is_err() {
-        let mut again = open(&rt, rt.alloc(), 2, 40)?;
-        make_all(&rt, &mut again, history.as_slice());
-        assert!(rt; !again.finished());
+    if lone_run(&mut machine, &[2, 2], &mut history).is_err() {
+        assert!(rt; !finishes(&rt, rt.alloc(), 2, 40, history.as_slice())?);
+        lone_run(&mut machine, &[], &mut history)?;
     }
-    let mut again = open(&rt, rt.alloc(), 2, 40)?;
-    make_all(&rt, &mut again, history.as_slice());
-    assert!(rt; again.finished());
+    assert!(rt; finishes(&rt, rt.alloc(), 2, 40, history.as_slice())?);
     assert_eq!(rt; history.len(), 81);
     Ok(())
 }
@@ -130,35 +134,54 @@ fn reserved_steps_take_no_memory(rt: HostRuntime) -> Result<(), Fail> {
     let mut history = Vec::new(rt.alloc());
     history.reserve(7)?;
     let capacity = history.capacity();
-    assert!(rt; lone_run(&mut machine, &[], &mut history).is_ok());
-    assert_eq!(rt; history.len(), 7);
-    assert_eq!(rt; history.capacity(), capacity);
+    lone_run(&mut machine, &[], &mut history)?;
+    assert_eq!(rt; (history.len(), history.capacity()), (7, capacity));
+    Ok(())
+}
+
+// Actor, the answer that it gets, the row that it gives, and the number of what is made, none where it is stale.
+#[test]
+fn a_machine_answers_its_actors(rt: HostRuntime) -> Result<(), Fail> {
+    let mut machine = open(&rt, rt.alloc(), 2, 1)?;
+    for (actor, answer, row, number) in [
+        (0, Ask::NotYet, Row::Take, None),
+        (3, Ask::Ended, Row::Check, None),
+        (2, Ask::Ready(Work::Turn(Row::Dispatch)), Row::Halt, None),
+        (
+            2,
+            Ask::Ready(Work::Turn(Row::Dispatch)),
+            Row::Dispatch,
+            Some(0),
+        ),
+        (1, Ask::NotYet, Row::Take, None),
+        (0, Ask::Ready(Work::Turn(Row::Take)), Row::Take, Some(0)),
+        (2, Ask::Ready(Work::Turn(Row::Halt)), Row::Halt, Some(1)),
+        (1, Ask::Ended, Row::Take, None),
+    ] {
+        assert_eq!(rt; ask(&rt, &machine, actor), answer, "actor {actor}");
+        assert_eq!(rt;
+            give(&rt, &mut machine, actor, row),
+            number,
+            "actor {actor}"
+        );
+    }
     Ok(())
 }
 
 #[test]
-fn a_machine_answers_its_actors(rt: HostRuntime) -> Result<(), Fail> {
-    let mut machine = open(&rt, rt.alloc(), 2, 1)?;
-    assert_eq!(rt; *machine.options(), options(2, 1));
-    assert_eq!(rt; machine.job().words().arrays(), 0);
-    assert_eq!(rt; machine.words().arrays(), 0);
-    assert_eq!(rt; machine.facts().options, options(2, 1));
-    assert_eq!(rt; machine.facts().waits, 0);
-    assert_eq!(rt; machine.ending(), Ending::Unfinished);
-
-    assert_eq!(rt; ask(&rt, &machine, 0), Ask::NotYet);
-    assert_eq!(rt; ask(&rt, &machine, 2), Ask::Ready(Work::Turn(Row::Dispatch)));
-    assert_eq!(rt; ask(&rt, &machine, 3), Ask::Ended);
-
-    // What differs from the answer changes nothing.
-    assert_eq!(rt; give(&rt, &mut machine, 2, Row::Halt), None);
-    assert_eq!(rt; give(&rt, &mut machine, 0, Row::Take), None);
-    assert_eq!(rt; give(&rt, &mut machine, 3, Row::Check), None);
-    assert_eq!(rt; give(&rt, &mut machine, 2, Row::Dispatch), Some(0));
-    assert_eq!(rt; ask(&rt, &machine, 1), Ask::NotYet);
-    assert_eq!(rt; give(&rt, &mut machine, 0, Row::Take), Some(0));
-    assert_eq!(rt; give(&rt, &mut machine, 2, Row::Halt), Some(1));
-    assert_eq!(rt; ask(&rt, &machine, 1), Ask::Ended);
-    assert!(rt; machine.finished());
+fn a_machine_shows_its_state(rt: HostRuntime) -> Result<(), Fail> {
+    let machine = open(&rt, rt.alloc(), 2, 1)?;
+    assert_eq!(rt;
+        (machine.finished(), machine.ending()),
+        (false, Ending::Unfinished)
+    );
+    assert_eq!(rt;
+        (*machine.options(), machine.facts().options),
+        (options(2, 1), options(2, 1))
+    );
+    assert_eq!(rt;
+        (machine.job().words().arrays(), machine.words().arrays()),
+        (0, 0)
+    );
     Ok(())
 }

@@ -20,4 +20,3 @@ loop-entry-preserved g c = record {
   kept = c.in_ok-follow_entry.ensures.kept ∙ c.loop-entry.invariant.kept;
   capacity = omega arith;
 }
-

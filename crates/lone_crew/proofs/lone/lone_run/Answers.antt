@@ -91,9 +91,9 @@ returns-in_err-round-clause-stopped g c =
     let kept = legal_step m.job_of m.options_of m.opening m.step met.keeps_job met.keeps_options in
     let so_far = c.rounds.invariant in
     let left : 0 < m.measure c.rounds.machine =
-        some_left m.step (IsLegal m.job_of m.options_of m.opening m.step) kept m.measure met.falls _ _ c.rounds-test.ensures.legal (c.rounds-test.ensures.progress refl) in
+    some_left m.step (IsLegal m.job_of m.options_of m.opening m.step) kept m.measure met.falls _ _ c.rounds-test.ensures.legal (c.rounds-test.ensures.progress refl) in
     let stopped = subst (λ (n : ℕ). StopsIn m.step c.rounds.machine c.rounds.history.items (up_to n) c.round.new.machine c.round.new.history.items)
-          c.count_actors-actors.ensures.count c.in_err-round.ensures.stopped in
+    c.count_actors-actors.ensures.count c.in_err-round.ensures.stopped in
     let p = err_from_is_err_and c.from_residual-in_err-round.result c.from_residual-in_err-round.ensures.1 in
     rw p.1 (stops_in_round m.step _ _ _ (actors_of (m.options_of c.args.machine.now)) so_far.rounds_made (m.measure c.args.machine.now) _ _ _ c.args.schedule.now so_far.goes stopped (omega (arith, so_far.few)))
 

@@ -20,4 +20,3 @@ loop-actor-preserved g c = record {
   kept = c.in_ok-look.ensures.kept ∙ c.loop-actor.invariant.kept;
   capacity = omega arith;
 }
-

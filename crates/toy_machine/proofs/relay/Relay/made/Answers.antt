@@ -1,4 +1,3 @@
-use Rattle.std.proofs.Common.{sym}
 use Rattle.toy_machine.specs.Guards.{made_row}
 use Rattle.toy_machine.proofs.relay.Relay.made.Goals as goal
 
