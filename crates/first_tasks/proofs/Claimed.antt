@@ -102,6 +102,7 @@ module _ (program : Program) (form : IsFirstForm program) (words : List ℤ) whe
   claims_word number = has (with_claims (no_claims form.first.length) (claims_numbered program number))
 
   turn_held : (number : ℕ) → slice.Within (sizes_of (arrays_of program.decls)) (claims_word number) (turn_at program (iteration_numbered first number))
+  unfolding claims_in
   turn_held number =
       let scalars = scalars_in program (iteration_numbered first number) in
       let by_parts = λ (f : First). (claims_of f (scalar_at scalars f.outer.name) (scalar_at scalars f.inner.name)).claims in
@@ -109,6 +110,7 @@ module _ (program : Program) (form : IsFirstForm program) (words : List ℤ) whe
         (hold program form (scalar_at scalars form.first.outer.name) (scalar_at scalars form.first.inner.name) scalars (record { of_outer = refl; of_inner = refl }) form.first.length (omega arith))
 
   family_held : (number : ℕ) → Within (claims_by (claims_word number)) (family_of (λ w. None) nest number)
+  unfolding cut_turn
   family_held number = ⊎_elim inside behind (cases_lt number (count_of first.outer * count_of first.inner))
     where
       inside : number < count_of first.outer * count_of first.inner → Within (claims_by (claims_word number)) (family_of (λ w. None) nest number)
@@ -127,6 +129,7 @@ module _ (program : Program) (form : IsFirstForm program) (words : List ℤ) whe
       (or_cases (claims_word number w false) (claims_word number w true) is)
 
   no_clash : (j k : ℕ) → clashes program j k ≡ false → Clash (claims_by (claims_word j)) (claims_by (claims_word k)) → ⊥
+  unfolding clashes
   no_clash j k none (w, inl both) =
       let second = claimed-listed k w both.1 in
       true≢false (sym (clash_at_word (claims_numbered program j) (claims_numbered program k) w true second.0 (listed (claims_numbered program j) form.first.length w true both.0) second.1 refl) ∙ none)

@@ -104,6 +104,7 @@ module _ (program : Program) (form : IsFirstForm program) (words : List ℤ) whe
 
   follow_iterations : (n t k : ℕ) (scalars : List ℤ) (rest : Course) → k + n ≡ count_of first.inner → scalars ≡ with_scalar opened first.outer.name (variable (pos first.outer.low) 1 t)
       → Follow (position.Turn (suc t)) rest → Follow (position.Inside t k) (iterations n k 0 (λ j. with_scalar scalars first.inner.name (variable (pos first.inner.low) 1 j)) rest)
+  unfolding cut_turn
   follow_iterations zero t k scalars rest count are follows =
       (position.Turn (suc t), cond-false (nat_lt k (count_of first.inner)) _ _ (le-ltb k (count_of first.inner) (omega arith)), follows)
   follow_iterations (suc n) t k scalars rest count are follows =

@@ -92,6 +92,7 @@ no_iterations-kept = record {
 }
 
 pub first-kept : (program : Program) → IsKept (first_of program)
+unfolding first_of
 first-kept program = read (read_parts program.decls program.regions)
   where
     tested : (first : First) (test : Bool) → is_kept first ≡ test → IsKept (if test then first else no_iterations)
@@ -102,6 +103,7 @@ first-kept program = read (read_parts program.decls program.regions)
     read (Some first) = tested first (is_kept first) refl
 
 pub first-of_form : (program : Program) (form : IsFirstForm program) → first_of program ≡ form.first
+unfolding first_of
 first-of_form program form =
     ap (λ o. option_map_or (λ (first : First). if is_kept first then first else no_iterations) o no_iterations) (read-of_form program form)
     ∙ ap (λ test. if test then form.first else no_iterations) (kept_is form.first form.kept)

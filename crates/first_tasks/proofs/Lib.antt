@@ -4,3 +4,4 @@ pub mod Pieces
 pub mod Following
 pub mod Numbers
 pub mod Claimed
+pub mod Standing

@@ -1,7 +1,7 @@
 -- The cut turn of an iteration of the first form is straight: a few reads, and then a trap, or a write and the end. It has
 -- no pause, since it has too few operations.
-use Rattle.std.proofs.Common.{◌≡◌, ℕ, zero, suc, ◌+◌, ◌≤◌, ◌<◌, ℤ, Bool, true, false, ◌&&◌, ◌==◌, ◌||◌, if◌then◌else◌, IsTrue, Option, Some, None, Ok, List, [], ◌∷◌, refl, sym, ap, ◌∙◌, subst, arith}
-use Rattle.std.proofs.lemmas.Bool.{and_parts, false≢true, ne_eqb}
+use Rattle.std.proofs.Common.{◌≡◌, ℕ, zero, suc, ◌+◌, ◌≤◌, ◌<◌, ℤ, pos, negsuc, nat_lt, Bool, true, false, ◌&&◌, ◌==◌, ◌||◌, if◌then◌else◌, IsTrue, Option, Some, None, Ok, List, [], ◌∷◌, refl, sym, ap, ◌∙◌, subst, arith}
+use Rattle.std.proofs.lemmas.Bool.{and_parts, false≢true, ne_eqb, ltb-true}
 use Rattle.nest_syntax.specs.declared.names.Line.{Line}
 use Rattle.nest_syntax.specs.declared.operators.Bin.{Bin}
 use Rattle.nest_syntax.specs.declared.operators.Un.{Un}
@@ -11,7 +11,8 @@ use Rattle.nest_syntax.specs.declared.tree.Expr.TheFolds.{fold-roll-Expr}
 use Rattle.nest_syntax.specs.declared.tree.Expr.TheVariants as expr
 use Rattle.nest_syntax.specs.declared.tree.Expr.TheVariants.{rolls-Number, rolls-Scalar, rolls-Word, rolls-Unary, rolls-Binary, rolls-Choice}
 use Rattle.nest_syntax.specs.Words.{apply}
-use Rattle.nest_syntax.specs.Arrays.{Array, sizes_of, located}
+use Rattle.std.specs.Option.{option_map, option_and_then}
+use Rattle.nest_syntax.specs.Arrays.{Array, sizes_of, located, place_of, word_number}
 use Rattle.nest_syntax.specs.Turn.{Turn, Finished, Load, Store, Op, Reckoning, reckoning, done_with, inside, writing}
 use Rattle.nest_syntax.specs.FirstForm.{First, IsKept, is_allowed, is_arithmetic, operators, node_operators}
 use Rattle.nest_syntax.proofs.Equations.{reckoning-number, reckoning-scalar, reckoning-word, reckoning-binary}
@@ -21,14 +22,14 @@ use Rattle.settle_law.specs.Cuts.{Cut, cut, pausing, is_full, one_more}
 use Rattle.settle_law.specs.Cuts as cuts
 use Rattle.first_tasks.specs.Pieces.{words_in, node_words, most_reads}
 
--- at most so many reads, then a trap, or a write and the end
-abbrev pub IsStraight : ℕ → Cut → Type 0
-IsStraight most cuts.Finished = Unit {0}
-IsStraight most (cuts.Trapped cause line) = Unit {0}
-IsStraight zero (cuts.Reads w go) = ⊥
-IsStraight (suc most) (cuts.Reads w go) = (value : ℤ) → IsStraight most (go value)
-IsStraight most (cuts.Writes w value rest) = rest ≡ cuts.Finished
-IsStraight most (cuts.Pauses rest) = ⊥
+-- at most so many reads, then a trap, or a write and the end; all of words below a size
+abbrev pub IsStraight : ℕ → ℕ → Cut → Type 0
+IsStraight size most cuts.Finished = Unit {0}
+IsStraight size most (cuts.Trapped cause line) = Unit {0}
+IsStraight size zero (cuts.Reads w go) = ⊥
+IsStraight size (suc most) (cuts.Reads w go) = (w < size) × ((value : ℤ) → IsStraight size most (go value))
+IsStraight size most (cuts.Writes w value rest) = (w < size) × (rest ≡ cuts.Finished)
+IsStraight size most (cuts.Pauses rest) = ⊥
 
 -- what operators and words are at each kind of node
 pub operators-word : (name : ℕ) (place : Expr) → operators (expr.Word name place) ≡ operators place
@@ -64,32 +65,48 @@ module _ (array size outer inner : ℕ) (scalars : List ℤ) where
   -- What is straight behind each value of an expression, is straight before it.
   abbrev pub GoesStraight : Expr → Type 0
   GoesStraight e = (words : Bool) → IsTrue (is_allowed array outer inner e words) → (line : Line) (n most : ℕ) (go : ℤ → Turn) → n + operators e ≤ 31
-      → ((value : ℤ) (m : ℕ) → m ≤ n + operators e → IsStraight most (cut (sizes_of arrays) m (go value)))
-      → IsStraight (words_in e + most) (cut (sizes_of arrays) n (reckoning arrays e line scalars go))
+      → ((value : ℤ) (m : ℕ) → m ≤ n + operators e → IsStraight size most (cut (sizes_of arrays) m (go value)))
+      → IsStraight size (words_in e + most) (cut (sizes_of arrays) n (reckoning arrays e line scalars go))
 
   at_variable : (e : Expr) (v : ℤ) → words_in e ≡ 0 → ((line : Line) (go : ℤ → Turn) → reckoning arrays e line scalars go ≡ go v) → GoesStraight e
   at_variable e v none is words allowed line n most go few straight =
-      subst (λ k. IsStraight (k + most) (cut (sizes_of arrays) n (reckoning arrays e line scalars go))) (sym none)
-        (subst (λ k. IsStraight k (cut (sizes_of arrays) n (reckoning arrays e line scalars go))) same
-          (subst (λ t. IsStraight most (cut (sizes_of arrays) n t)) (sym (is line go)) (straight v n (omega arith))))
+      subst (λ k. IsStraight size (k + most) (cut (sizes_of arrays) n (reckoning arrays e line scalars go))) (sym none)
+        (subst (λ k. IsStraight size k (cut (sizes_of arrays) n (reckoning arrays e line scalars go))) same
+          (subst (λ t. IsStraight size most (cut (sizes_of arrays) n t)) (sym (is line go)) (straight v n (omega arith))))
     where
       same : most ≡ 0 + most
       same = omega arith
 
+  -- a subscript inside the array is a word of it
+  inside_pos : (k : ℕ) (p : ℕ × ℕ) (t : Bool) → nat_lt k size ≡ t → option_map (λ (place : ℕ). (0, place)) (if t then Some k else None) ≡ Some p → word_number (sizes_of arrays) p.0 p.1 < size
+  inside_pos k p true is e = let same : (0, k) ≡ p = cc in let below : k < size = ltb-true k size is in subst (λ (q : ℕ × ℕ). word_number (sizes_of arrays) q.0 q.1 < size) same (omega arith)
+  inside_pos k p false is e = cc
+
+  inside_at : (at : ℤ) (p : ℕ × ℕ) → option_map (λ (place : ℕ). (0, place)) (place_of (sizes_of arrays) 0 at) ≡ Some p → word_number (sizes_of arrays) p.0 p.1 < size
+  inside_at (pos k) p e = inside_pos k p (nat_lt k size) refl e
+  inside_at (negsuc k) p e = cc
+
+  located_inside : (name : ℕ) (at : ℤ) (p : ℕ × ℕ) → located arrays name at ≡ Some p → word_number (sizes_of arrays) p.0 p.1 < size
+  located_inside name at p e = by_name (array == name) e
+    where
+      by_name : (t : Bool) → option_and_then (λ (n : ℕ). option_map (λ (place : ℕ). (n, place)) (place_of (sizes_of arrays) n at)) (if t then Some 0 else None) ≡ Some p → word_number (sizes_of arrays) p.0 p.1 < size
+      by_name true is = inside_at at p is
+      by_name false is = cc
+
   -- a word is read, or its subscript is outside
-  at_place : (place : Option (ℕ × ℕ)) (line : Line) (n most : ℕ) (go : ℤ → Turn) → ((value : ℤ) → IsStraight most (cut (sizes_of arrays) 0 (go value))) → IsStraight (suc most) (cut (sizes_of arrays) n (inside line place (λ a p. Load a p go)))
-  at_place None line n most go straight = tt
-  at_place (Some p) line n most go straight = straight
+  at_place : (place : Option (ℕ × ℕ)) → ((p : ℕ × ℕ) → place ≡ Some p → word_number (sizes_of arrays) p.0 p.1 < size) → (line : Line) (n most : ℕ) (go : ℤ → Turn) → ((value : ℤ) → IsStraight size most (cut (sizes_of arrays) 0 (go value))) → IsStraight size (suc most) (cut (sizes_of arrays) n (inside line place (λ a p. Load a p go)))
+  at_place None below line n most go straight = tt
+  at_place (Some p) below line n most go straight = (below p refl, straight)
 
   at_word : (name : ℕ) (place : Expr) → GoesStraight place → GoesStraight (expr.Word name place)
   at_word name place is words allowed line n most go few straight =
       let ops = operators-word name place in
       let place_allowed = and_parts (name == array) (is_allowed array outer inner place false) (and_parts words (name == array && is_allowed array outer inner place false) (sym (allowed-word array outer inner words name place) ∙ allowed)).1 in
       let count : words_in place + suc most ≡ words_in (expr.Word name place) + most = omega (arith, words-word name place) in
-      subst (λ k. IsStraight k (cut (sizes_of arrays) n (reckoning arrays (expr.Word name place) line scalars go))) count
-        (subst (λ (r : Reckoning). IsStraight (words_in place + suc most) (cut (sizes_of arrays) n (r line scalars go))) (sym (reckoning-word arrays name place))
+      subst (λ k. IsStraight size k (cut (sizes_of arrays) n (reckoning arrays (expr.Word name place) line scalars go))) count
+        (subst (λ (r : Reckoning). IsStraight size (words_in place + suc most) (cut (sizes_of arrays) n (r line scalars go))) (sym (reckoning-word arrays name place))
           (is false place_allowed.1 line n (suc most) (λ at. inside line (located arrays name at) (λ a p. Load a p go)) (omega (arith, ops))
-            (λ at m le. at_place (located arrays name at) line m most go (λ value. straight value 0 (omega arith)))))
+            (λ at m le. at_place (located arrays name at) (λ p e. located_inside name at p e) line m most go (λ value. straight value 0 (omega arith)))))
 
   at_binary : (o : Bin) (a b : Expr) → GoesStraight a → GoesStraight b → GoesStraight (expr.Binary o a b)
   at_binary o a b first second words allowed line n most go few straight =
@@ -97,15 +114,15 @@ module _ (array size outer inner : ℕ) (scalars : List ℤ) where
       let parts = and_parts (is_allowed array outer inner a words) (is_allowed array outer inner b words) both.1 in
       let ops = operators-binary o a b in
       let count : words_in a + (words_in b + most) ≡ words_in (expr.Binary o a b) + most = omega (arith, words-binary o a b) in
-      subst (λ k. IsStraight k (cut (sizes_of arrays) n (reckoning arrays (expr.Binary o a b) line scalars go))) count
-        (subst (λ (r : Reckoning). IsStraight (words_in a + (words_in b + most)) (cut (sizes_of arrays) n (r line scalars go))) (sym (reckoning-binary arrays o a b))
+      subst (λ k. IsStraight size k (cut (sizes_of arrays) n (reckoning arrays (expr.Binary o a b) line scalars go))) count
+        (subst (λ (r : Reckoning). IsStraight size (words_in a + (words_in b + most)) (cut (sizes_of arrays) n (r line scalars go))) (sym (reckoning-binary arrays o a b))
           (first words parts.0 line n (words_in b + most) _ (omega (arith, ops))
-            (λ left m le. subst (λ t. IsStraight (words_in b + most) (cut (sizes_of arrays) m t)) (sym (turn-arithmetic o both.0 left (reckoning arrays b) line scalars go))
+            (λ left m le. subst (λ t. IsStraight size (words_in b + most) (cut (sizes_of arrays) m t)) (sym (turn-arithmetic o both.0 left (reckoning arrays b) line scalars go))
               (second words parts.1 line m most _ (omega (arith, ops))
                 (λ right k less.
                   let done = arithmetic o both.0 left right in
-                  subst (λ r. IsStraight most (cut (sizes_of arrays) k (done_with line r go))) (sym done.1)
-                    (subst (IsStraight most) (sym (cut-op (sizes_of arrays) k (go done.0) (omega (arith, ops)))) (straight done.0 (suc k) (omega (arith, ops)))))))))
+                  subst (λ r. IsStraight size most (cut (sizes_of arrays) k (done_with line r go))) (sym done.1)
+                    (subst (IsStraight size most) (sym (cut-op (sizes_of arrays) k (go done.0) (omega (arith, ops)))) (straight done.0 (suc k) (omega (arith, ops)))))))))
 
   refused : (e : Expr) → ((words : Bool) → is_allowed array outer inner e words ≡ false) → GoesStraight e
   refused e not_allowed words allowed = absurd (false≢true (sym (not_allowed words) ∙ allowed))
@@ -120,16 +137,16 @@ module _ (array size outer inner : ℕ) (scalars : List ℤ) where
       (λ t a b x y z. refused (expr.Choice t a b) (λ words. allowed-choice array outer inner words t a b))
 
   -- the write, at a place that is inside or not
-  at_write : (place : Option (ℕ × ℕ)) (line : Line) (n : ℕ) (value : ℤ) → IsStraight 0 (cut (sizes_of arrays) n (inside line place (λ a p. writing line None a p value Finished)))
-  at_write None line n value = tt
-  at_write (Some p) line n value = refl
+  at_write : (place : Option (ℕ × ℕ)) → ((p : ℕ × ℕ) → place ≡ Some p → word_number (sizes_of arrays) p.0 p.1 < size) → (line : Line) (n : ℕ) (value : ℤ) → IsStraight size 0 (cut (sizes_of arrays) n (inside line place (λ a p. writing line None a p value Finished)))
+  at_write None below line n value = tt
+  at_write (Some p) below line n value = (below p refl, refl)
 
   pub write_straight : (place value : Expr) (line : Line) → IsTrue (is_allowed array outer inner place false) → IsTrue (is_allowed array outer inner value true) → operators place + operators value ≤ 12
-      → IsStraight (words_in place + words_in value) (cut (sizes_of arrays) 0 (reckoning arrays place line scalars (λ at. reckoning arrays value line scalars (λ v. inside line (located arrays array at) (λ a p. writing line None a p v Finished)))))
+      → IsStraight size (words_in place + words_in value) (cut (sizes_of arrays) 0 (reckoning arrays place line scalars (λ at. reckoning arrays value line scalars (λ v. inside line (located arrays array at) (λ a p. writing line None a p v Finished)))))
   write_straight place value line place_allowed value_allowed few =
       goes_straight place false place_allowed line 0 (words_in value) _ (omega arith)
-        (λ at m le. subst (λ k. IsStraight k (cut (sizes_of arrays) m (reckoning arrays value line scalars (λ v. inside line (located arrays array at) (λ a p. writing line None a p v Finished))))) same
-          (goes_straight value true value_allowed line m 0 _ (omega arith) (λ v k less. at_write (located arrays array at) line k v)))
+        (λ at m le. subst (λ k. IsStraight size k (cut (sizes_of arrays) m (reckoning arrays value line scalars (λ v. inside line (located arrays array at) (λ a p. writing line None a p v Finished))))) same
+          (goes_straight value true value_allowed line m 0 _ (omega arith) (λ v k less. at_write (located arrays array at) (λ p e. located_inside array at p e) line k v)))
     where
       same : words_in value + 0 ≡ words_in value
       same = omega arith

@@ -10,7 +10,7 @@ use Rattle.first_tasks.specs.Form.{first_of}
 use Rattle.first_tasks.specs.Iterations.{scalars_in, iteration_numbered}
 
 -- the claims of an iteration, by the values that the two variables have as its scalars
-abbrev pub claims_in : Program → Iteration → List Claim
+unfoldable pub claims_in : Program → Iteration → List Claim
 claims_in program iteration = let first = first_of program in let scalars = scalars_in program iteration in (claims_of first (scalar_at scalars first.outer.name) (scalar_at scalars first.inner.name)).claims
 
 abbrev pub claims_numbered : Program → ℕ → List Claim
@@ -24,5 +24,5 @@ abbrev pub clash : List Claim → List Claim → Bool
 clash claims others = list_any (λ (claim : Claim). list_any (collide claim) others) claims
 
 -- whether the claims of two iterations clash
-abbrev pub clashes : Program → ℕ → ℕ → Bool
+unfoldable pub clashes : Program → ℕ → ℕ → Bool
 clashes program j k = clash (claims_numbered program j) (claims_numbered program k)

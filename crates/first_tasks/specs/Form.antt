@@ -7,12 +7,15 @@ use Rattle.nest_syntax.specs.declared.tree.Expr.TheOpen.{Expr-F}
 use Rattle.nest_syntax.specs.declared.tree.Expr.TheVariants as expr
 use Rattle.nest_syntax.specs.declared.tree.Stmt.{Stmt, out-Stmt}
 use Rattle.nest_syntax.specs.declared.tree.Stmt.TheOpen.{Stmt-F}
+use Rattle.nest_syntax.specs.declared.tree.Stmt.TheVariants as stmt
+use Rattle.nest_syntax.specs.declared.operators.Op.TheVariants as op
 use Rattle.nest_syntax.specs.declared.tree.Arm.{Arm}
 use Rattle.nest_syntax.specs.declared.tree.Loop.{Loop}
 use Rattle.nest_syntax.specs.declared.tree.Decl.{Decl}
 use Rattle.nest_syntax.specs.declared.tree.Decl.TheVariants as decl
 use Rattle.nest_syntax.specs.declared.tree.Program.{Program}
-use Rattle.nest_syntax.specs.FirstForm.{First, Turns, decls_of, regions_of, is_allowed, operators, greatest_bound}
+use Rattle.first_tasks.specs.declared.turns.Turns.{Turns as Told}
+use Rattle.nest_syntax.specs.FirstForm.{First, Turns, loop_of, decls_of, regions_of, is_allowed, operators, greatest_bound}
 
 -- the number that an expression is
 abbrev pub number_at : Expr-F Expr → ℕ
@@ -73,7 +76,7 @@ no_iterations = record { line = record { 0 = 0 }; array = 0; length = 1; outer =
 
 -- The parts of a program of the first form. Any other program counts as one without iterations, so that what is said
 -- here of programs of the first form is said of every program.
-abbrev pub first_of : Program → First
+unfoldable pub first_of : Program → First
 first_of program = option_map_or (λ (first : First). if is_kept first then first else no_iterations) (read_parts program.decls program.regions) no_iterations
 
 -- the program with these parts: a program of the first form itself
@@ -83,3 +86,17 @@ first_form program = record { names = program.names; decls = decls_of (first_of 
 -- how often a loop turns
 abbrev pub count_of : Turns → ℕ
 count_of turns = turns.high - turns.low
+
+-- the loops and the write of a program with these parts
+abbrev pub the_write : First → List Stmt
+the_write first = stmt.Write first.write_line first.array first.place op.Set first.value ∷ []
+
+abbrev pub inner_loop : First → Loop
+inner_loop first = loop_of first.inner (the_write first)
+
+abbrev pub outer_loop : First → Loop
+outer_loop first = loop_of first.outer (stmt.Loop (inner_loop first) ∷ [])
+
+-- a loop as the engine reads it: its variable, its first value, and how often it turns
+abbrev pub turns_told : Turns → Told
+turns_told turns = record { name = turns.name; low = turns.low; count = count_of turns }

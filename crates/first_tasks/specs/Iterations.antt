@@ -29,5 +29,5 @@ scalars_in program iteration = let first = first_of program in with_scalar (with
 abbrev pub turn_at : Program → Iteration → Turn
 turn_at program iteration = turn_in (arrays_of program.decls) (bodies_of program) 0 (scalars_in program iteration)
 
-abbrev pub cut_turn : Program → Iteration → Cut
+unfoldable pub cut_turn : Program → Iteration → Cut
 cut_turn program iteration = cut (sizes_of (arrays_of program.decls)) 0 (turn_at program iteration)

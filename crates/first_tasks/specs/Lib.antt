@@ -4,3 +4,6 @@ pub mod Claims
 pub mod Positions
 pub mod Pieces
 pub mod Setups
+pub mod Reckoning
+pub mod Frames
+pub mod Stops

@@ -39,7 +39,7 @@ stop_at piece (Writes w value rest) = Stores w value (record piece { stored = tr
 stop_at piece (Pauses rest) = Goes piece
 
 -- the stop at which a piece stands
-abbrev pub stop_of : Program → Piece → Stop Piece
+unfoldable pub stop_of : Program → Piece → Stop Piece
 stop_of program piece = if piece.stored then Finishes else stop_at piece (left_behind (cut_turn program piece.iteration) piece.reads)
 
 -- how many words an expression reads at most
