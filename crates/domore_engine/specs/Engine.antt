@@ -2,6 +2,7 @@
 use Rattle.std.specs.Prelude.{ℕ, Bool, true, false, if◌then◌else◌, Option, Some, None}
 use Rattle.std.specs.Option.{option_map, option_map_or}
 use Rattle.nest_syntax.specs.declared.place.Place.{Place}
+use Rattle.nest_syntax.specs.declared.tree.Program.{Program}
 use Rattle.nest_mean.specs.Nest.{Nest}
 use Rattle.word_store.specs.Memory.{Memory}
 use Rattle.settle_law.specs.Courses.{nest_of}
@@ -24,26 +25,22 @@ use Rattle.domore_core.specs.Measure as measures
 use Rattle.first_tasks.specs.declared.position.Iteration.{Iteration}
 use Rattle.first_tasks.specs.declared.position.Position.{Position}
 use Rattle.first_tasks.specs.declared.position.Position.TheVariants.{Region}
-use Rattle.first_tasks.specs.Form.{first_of}
-use Rattle.first_tasks.specs.Claims.{clashes}
-use Rattle.first_tasks.specs.Positions.{event_at}
-use Rattle.first_tasks.specs.Pieces.{Piece, entry, system_of}
+use Rattle.first_tasks.specs.Form.{first_form}
+use Rattle.first_tasks.specs.Pieces.{Piece}
+use Rattle.first_tasks.specs.Setups.{setup}
 use Rattle.domore_engine.specs.Reports.{report_of}
+
+-- the program of a job, as one of the first form
+abbrev pub program_in : Nest → Program
+program_in job = first_form job.program
 
 -- what the machine is built on, for a job and options
 abbrev pub setup_of : Nest → Options → Setup Iteration Position Piece
-setup_of job options = record {
-  system = system_of job.program;
-  event = event_at (first_of job.program);
-  entry = entry;
-  clashes = clashes job.program;
-  width = options.workers;
-  room = options.queue;
-}
+setup_of job options = setup (program_in job) options.workers options.queue
 
 -- the job as the abstract machine sees it
 abbrev pub nest_in : Nest → courses.Nest
-nest_in job = nest_of job.program job.opening.words
+nest_in job = nest_of (program_in job) job.opening.words
 
 abbrev pub Table : Type 0
 Table = State Iteration Position Piece

@@ -1,2 +1,4 @@
 pub mod Engine
 pub mod Reports
+pub mod Hands
+pub mod Stages

@@ -1,10 +1,11 @@
 //! The engine that keeps textual order without a barrier, for programs of the first form.
 //!
 //! In come a job and options, out comes a machine: a scheduler hands iterations out with what they wait for, and each
-//! worker carries out its own. `specs/` says what the abstract machine is built on here: the iterations of a program of
-//! the first form, their claims, the cursor's positions and the pieces of work.
+//! worker carries out its own. It is the abstract machine of `domore_core`, on the iterations of `first_tasks`.
 #![tactic(auto)]
 
-mod position;
-
-pub use position::{Iteration, Position};
+mod hand;
+mod seat;
+mod stage;
+mod ticket;
+mod wait;

@@ -5,3 +5,4 @@ pub mod Following
 pub mod Numbers
 pub mod Claimed
 pub mod Standing
+pub mod Setups

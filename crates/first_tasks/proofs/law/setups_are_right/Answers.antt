@@ -1,15 +1,5 @@
-use Rattle.std.proofs.Common.{◌≡◌}
-use Rattle.first_tasks.proofs.Pieces.{begins}
-use Rattle.first_tasks.proofs.Following.{follows}
-use Rattle.first_tasks.proofs.Claimed.{apart}
+use Rattle.first_tasks.proofs.Setups.{right}
 use Rattle.first_tasks.proofs.law.setups_are_right.Goals as goal
 
 pub returns : goal.returns
-returns c = λ program form words width room some_worker some_room. record {
-  some_worker = some_worker;
-  some_room = some_room;
-  begins = begins program form;
-  follows = follows program form words;
-  opens_fixed = λ w told e. absurd (cc);
-  apart = λ j k lower none. apart program form words j k none;
-}
+returns c = right
