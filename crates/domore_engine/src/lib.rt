@@ -5,7 +5,14 @@
 #![tactic(auto)]
 
 mod hand;
+mod memory;
+mod rows;
 mod seat;
+mod shadow;
 mod stage;
+mod steps;
+mod table;
+mod tally;
+mod tasks;
 mod ticket;
 mod wait;

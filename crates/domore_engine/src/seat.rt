@@ -1,15 +1,20 @@
-ghost use Rattle.std.specs.Prelude.{◌≡◌, ◌<◌, ◌+◌, ◌++◌, ◌^◌, ℕ, suc, true, List, [], ◌∷◌, length, IfOk, IsOk};
+ghost use Rattle.std.specs.Prelude.{◌≡◌, ◌<◌, ◌+◌, ◌++◌, ◌^◌, ℕ, suc, true, List, [], ◌∷◌, length, IfOk, IfSome, None};
 ghost use Rattle.domore_core.specs.Machine as machine;
 ghost use Rattle.domore_core.specs.Waits.{Wait as On};
 ghost use Rattle.first_tasks.specs.declared.position.Iteration.{Iteration as Body};
 ghost use Rattle.first_tasks.specs.Pieces.{Piece as Done, entry};
-ghost use Rattle.domore_engine.specs.Stages.{stage_of};
+ghost use Rattle.nest_syntax.specs.FirstForm.{IsFirstForm};
+ghost use Rattle.first_tasks.specs.Form.{first_of, first_form};
+ghost use Rattle.first_tasks.specs.Pieces.{stop_of};
+ghost use Rattle.first_tasks.specs.Stops.{stop_told, IsPossible};
+ghost use Rattle.domore_engine.specs.Stages.{stage_of, number_at};
 
 use crate::hand::Held;
 use crate::stage::Stage;
 use crate::ticket::Ticket;
-use first_tasks::Piece;
-use nest_syntax::NoMemory;
+use crate::tasks::stop_at;
+use first_tasks::{Piece, Stop};
+use nest_syntax::{NoMemory, Program};
 use std::alloc::Global;
 use std::collections::VecDeque;
 use std::marker::Model;
@@ -86,6 +91,46 @@ impl Seat {
         }
     }
 
+    /// The stop at which the held iteration of a program of the first form stands, where it waits no more.
+    pub(crate) fn stop(&self, program: &Program) -> Option<Stop>
+        requires { IsFirstForm program.now }
+        ensures is { (k : ℕ) (left : List On) (p : Done) → self.now.hand ≡ machine.Holding k left p → result ≡ stop_told (stop_of (first_form program.now) p) }
+        ensures none { self.now.hand ≡ machine.Idle → result ≡ None }
+        ensures ended { self.now.hand ≡ machine.Gone → result ≡ None }
+        ensures possible { (k : ℕ) (left : List On) (p : Done) → self.now.hand ≡ machine.Holding k left p → IfSome result (IsPossible (first_of (first_form program.now)).length 13 (length p.reads)) }
+    {
+        match &self.hand {
+            Held::Task { piece, .. } => Some(stop_at(program, piece)),
+            Held::Nothing | Held::Ended => None,
+        }
+    }
+
+    /// The number of the held iteration, and else of the first ticket. 0 where there is none.
+    pub(crate) fn number(&self) -> u64
+        ensures { result ≡ number_at self.now }
+    {
+        match &self.hand {
+            Held::Nothing => match self.queue.front() {
+                None => 0,
+                Some(ticket) => ticket.number,
+            },
+            Held::Task { number, .. } => *number,
+            Held::Ended => 0,
+        }
+    }
+
+    /// The held iteration is let go, or else the first ticket is dropped.
+    pub(crate) fn drop_first(&mut self)
+        ensures held { (k : ℕ) (left : List On) (p : Done) → self.old.hand ≡ machine.Holding k left p → self.new ≡ record self.old { hand = machine.Idle } }
+        ensures queued { (t : machine.Ticket Body) (queue : List (machine.Ticket Body)) → self.old.hand ≡ machine.Idle → self.old.queue ≡ t ∷ queue → self.new ≡ record self.old { queue = queue } }
+    {
+        if let Held::Task { .. } = &self.hand {
+            self.leave();
+        } else {
+            self.skip();
+        }
+    }
+
     /// A ticket is put at the end of the queue.
     pub(crate) fn put(&mut self, ticket: Ticket)
         requires { length self.old.queue < 1024 }
@@ -98,7 +143,6 @@ impl Seat {
 
     /// The first ticket is taken.
     pub(crate) fn take(&mut self)
-        requires { self.old.hand ≡ machine.Idle }
         ensures { (t : machine.Ticket Body) (queue : List (machine.Ticket Body)) → self.old.queue ≡ t ∷ queue
             → self.new ≡ record self.old { hand = machine.Holding t.number t.waits (entry t.body); queue = queue } }
     {

@@ -1,5 +1,7 @@
 -- The pieces realise the cut turns.
 use Rattle.std.proofs.Common.{◌≡◌, ℕ, zero, suc, ◌+◌, ◌-◌, ◌≤◌, ◌<◌, ℤ, pos, replicate, Some, Bool, true, false, if◌then◌else◌, None, List, [], ◌∷◌, ◌++◌, length, refl, sym, ap, ◌∙◌, subst, arith, length-append}
+use Rattle.std.proofs.Common.{⊎_elim}
+use Rattle.std.proofs.lemmas.Bool.{cases_Bool}
 use Rattle.nest_syntax.specs.declared.tree.Program.{Program}
 use Rattle.nest_syntax.specs.declared.tree.Decl.{Decl}
 use Rattle.nest_syntax.specs.declared.tree.Stmt.{Stmt}
@@ -136,3 +138,42 @@ stop-reckoned program form piece fresh =
     ∙ ap (λ s. told (turn_of (arrays_of (decls_of first)) (write_of first) s) (decls_of first)) same_scalars
     ∙ ap (λ t. told t (decls_of first)) (turn-of_write (arrays_of (decls_of first)) first (scalars_of frame))
     ∙ write_stands first.array first.length first.outer.name first.inner.name (scalars_of frame) piece.reads piece first.place first.value first.write_line own.0.place own.0.value own.0.few_operators
+
+-- each piece stands at a stop that is told
+pub stop-exists : (program : Program) (form : IsFirstForm program) (piece : Piece) → (stop : Stop) × (stop_told (stop_of program piece) ≡ Some stop)
+stop-exists program form piece = ⊎_elim
+    (λ (stored : piece.stored ≡ true). (Finish, stop-stored program piece stored))
+    (λ (fresh : piece.stored ≡ false). (stop_in (frame_of program piece.iteration) (first_of program).write_line (first_of program).place (first_of program).value piece.reads, stop-reckoned program form piece fresh))
+    (cases_Bool piece.stored)
+
+-- the piece behind a read, and behind the write
+module _ (program : Program) (piece : Piece) where
+  next_of : (c : Cut) (w : ℕ) (next : ℤ → Piece) → stop_at piece c ≡ Loads w next → (value : ℤ) → next value ≡ record piece { reads = piece.reads ++ value ∷ [] }
+  next_of Finished w next is value = cc
+  next_of (Trapped cause line) w next is value = cc
+  next_of (Reads u go) w next is value = let same : (λ v. let after : Piece = record piece { reads = piece.reads ++ v ∷ [] } in after) ≡ next = cc in ap (λ (f : ℤ → Piece). f value) (sym same)
+  next_of (Writes u v rest) w next is value = cc
+  next_of (Pauses rest) w next is value = cc
+
+  pub loads-next : (w : ℕ) (next : ℤ → Piece) → stop_of program piece ≡ Loads w next → (value : ℤ) → next value ≡ record piece { reads = piece.reads ++ value ∷ [] }
+  unfolding stop_of
+  loads-next w next is value = by_stored piece.stored is
+    where
+      by_stored : (stored : Bool) → (if stored then Finishes else stop_at piece (left_behind (cut_turn program piece.iteration) piece.reads)) ≡ Loads w next → next value ≡ record piece { reads = piece.reads ++ value ∷ [] }
+      by_stored true e = cc
+      by_stored false e = next_of (left_behind (cut_turn program piece.iteration) piece.reads) w next e value
+
+  behind_of : (c : Cut) (w : ℕ) (value : ℤ) (next : Piece) → stop_at piece c ≡ Stores w value next → next ≡ record piece { stored = true }
+  behind_of Finished w value next is = cc
+  behind_of (Trapped cause line) w value next is = cc
+  behind_of (Reads u go) w value next is = cc
+  behind_of (Writes u v rest) w value next is = cc
+  behind_of (Pauses rest) w value next is = cc
+
+  pub stores-next : (w : ℕ) (value : ℤ) (next : Piece) → stop_of program piece ≡ Stores w value next → next ≡ record piece { stored = true }
+  unfolding stop_of
+  stores-next w value next is = by_stored piece.stored is
+    where
+      by_stored : (stored : Bool) → (if stored then Finishes else stop_at piece (left_behind (cut_turn program piece.iteration) piece.reads)) ≡ Stores w value next → next ≡ record piece { stored = true }
+      by_stored true e = cc
+      by_stored false e = behind_of (left_behind (cut_turn program piece.iteration) piece.reads) w value next e
