@@ -1,6 +1,6 @@
 -- The events ahead of a cursor: their weight is what the event at the cursor and those behind it weigh, and is bounded by
 -- the costs.
-use Rattle.std.proofs.Common.{◌≡◌, ℕ, zero, suc, ◌+◌, ◌<◌, ◌≤◌, ◌⊎◌, ℤ, Bool, true, false, Option, Some, None, IsSome, List, [], ◌∷◌, ◌++◌, length, refl, sym, ap, ◌∙◌, subst, inl, inr, ⊎_elim, arith, length-append}
+use Rattle.std.proofs.Common.{◌≡◌, ℕ, zero, suc, ◌+◌, ◌<◌, ◌≤◌, ℤ, Option, Some, None, IsSome, List, [], ◌∷◌, ◌++◌, length, refl, sym, ap, ◌∙◌, subst, ⊎_elim, arith, length-append}
 use Rattle.std.proofs.lemmas.Bool.{true≢false, cases_lt}
 use Rattle.std.specs.Option.{option_map_or}
 use Rattle.nest_syntax.specs.Course.{Course}
@@ -9,7 +9,6 @@ use Rattle.nest_syntax.specs.Outcome.{Event as Passed, Computes, Drains, Iterate
 use Rattle.settle_law.specs.Cuts.{Cut}
 use Rattle.settle_law.specs.Courses.{Nest, Trap, Event, End, Scalar, Drain, Iterate, Close, Follows, Behind, AtEvent, Onward, events, events_left, reached}
 use Rattle.settle_law.proofs.Cursors.{at_event}
-use Rattle.domore_core.specs.Waits.{Wait}
 use Rattle.domore_core.specs.Machine.{Setup, waits}
 use Rattle.domore_core.specs.Measure.{behind_trap, iteration_weight, event_weight, ahead, EventCosts, Costs, sum_below}
 use Rattle.domore_core.proofs.Need.{waits_few}
@@ -97,9 +96,9 @@ module _ {B C P : Type 0} (m : Setup B C P) (nest : Nest) (tree : B → Cut) whe
     spent_up zero zero le = omega arith
     spent_up n zero le = let same : n ≡ 0 = omega arith in subst (λ x. spent x ≤ spent 0) (sym same) (omega arith)
     spent_up n (suc total) le = ⊎_elim
-      (λ l. let more : spent n ≤ spent total = spent_up n total (omega arith) in omega arith)
-      (λ ge. let same : n ≡ suc total = omega arith in subst (λ x. spent x ≤ spent (suc total)) (sym same) (omega arith))
-      (cases_lt n (suc total))
+        (λ l. let more : spent n ≤ spent total = spent_up n total (omega arith) in omega arith)
+        (λ ge. let same : n ≡ suc total = omega arith in subst (λ x. spent x ≤ spent (suc total)) (sym same) (omega arith))
+        (cases_lt n (suc total))
 
     abbrev pub all_spent : ℕ
     all_spent = length (events nest) + spent (length (iterations_among (events nest)))
@@ -107,7 +106,8 @@ module _ {B C P : Type 0} (m : Setup B C P) (nest : Nest) (tree : B → Cut) whe
     iterations_within : (passed : List Passed) (next : ℕ) (cursor : C) → Behind nest tree m.event passed next cursor → (length passed ≤ length (events nest)) × (spent next ≤ spent (length (iterations_among (events nest))))
     iterations_within passed next cursor behind = (
       (let a : length passed + length (events_left nest behind.left (reached nest next)) ≡ length (events nest) = all_length passed next cursor behind in omega arith),
-      spent_up next (length (iterations_among (events nest))) (let a : length (iterations_among passed) ≡ next = behind.counts in let b : length (iterations_among passed) ≤ length (iterations_among (events nest)) = subst (λ x. length (iterations_among passed) ≤ length (iterations_among x)) behind.all_events (fewer passed (events_left nest behind.left (reached nest next))) in omega arith))
+      spent_up next (length (iterations_among (events nest))) (let a : length (iterations_among passed) ≡ next = behind.counts in let b : length (iterations_among passed) ≤ length (iterations_among (events nest)) = subst (λ x. length (iterations_among passed) ≤ length (iterations_among x)) behind.all_events (fewer passed (events_left nest behind.left (reached nest next))) in omega arith),
+    )
 
     -- what is ahead, what is passed and what was spent is all within the bound
     module _ (most : ℕ) (more : (passed : List Passed) (next : ℕ) (cursor : C) → Behind nest tree m.event passed next cursor → Costs m nest most cost cursor next → ahead m nest most cursor next + length passed + spent next ≤ all_spent) where
@@ -124,14 +124,14 @@ module _ {B C P : Type 0} (m : Setup B C P) (nest : Nest) (tree : B → Cut) whe
           go None reach = let a : length passed ≤ length (events nest) = (iterations_within passed next cursor behind).0 in let b : spent next ≤ spent (length (iterations_among (events nest))) = (iterations_within passed next cursor behind).1 in omega arith
           go (Some words) reach = onward_bounded passed (Drains purpose) next (trap words) (rest words) (one_more passed next cursor behind (subst (λ x. IsCarried x (reached nest next)) (sym is) (subst IsSome (sym reach) refl))) (iterations_within passed next cursor behind).1 (at words reach) (costs words reach)
       event_bounded passed next cursor (Iterate b rest) is behind (i, here, same, after) (fuel, costs) =
-        let l : ahead m nest most rest (suc next) + length (passed ++ Iterates i.0 i.1 ∷ []) + (spent next + (cost next + m.width + 1)) ≤ all_spent = more (passed ++ Iterates i.0 i.1 ∷ []) (suc next) rest after costs in
-        let e : length (passed ++ Iterates i.0 i.1 ∷ []) ≡ length passed + 1 = one_longer passed (Iterates i.0 i.1) in
-        let w : length (waits m next) ≤ m.width = waits_few m.clashes m.width next in
-        omega arith
+          let l : ahead m nest most rest (suc next) + length (passed ++ Iterates i.0 i.1 ∷ []) + (spent next + (cost next + m.width + 1)) ≤ all_spent = more (passed ++ Iterates i.0 i.1 ∷ []) (suc next) rest after costs in
+          let e : length (passed ++ Iterates i.0 i.1 ∷ []) ≡ length passed + 1 = one_longer passed (Iterates i.0 i.1) in
+          let w : length (waits m next) ≤ m.width = waits_few m.clashes m.width next in
+          omega arith
       event_bounded passed next cursor (Close rest) is behind after costs =
-        let l : ahead m nest most rest next + length (passed ++ Closes ∷ []) + spent next ≤ all_spent = more (passed ++ Closes ∷ []) next rest after costs in
-        let e : length (passed ++ Closes ∷ []) ≡ length passed + 1 = one_longer passed Closes in
-        omega arith
+          let l : ahead m nest most rest next + length (passed ++ Closes ∷ []) + spent next ≤ all_spent = more (passed ++ Closes ∷ []) next rest after costs in
+          let e : length (passed ++ Closes ∷ []) ≡ length passed + 1 = one_longer passed Closes in
+          omega arith
 
     pub bounded : (most : ℕ) (passed : List Passed) (next : ℕ) (cursor : C) → Behind nest tree m.event passed next cursor → Costs m nest most cost cursor next → ahead m nest most cursor next + length passed + spent next ≤ all_spent
     bounded zero passed next cursor behind costs = let a : length passed ≤ length (events nest) = (iterations_within passed next cursor behind).0 in let b : spent next ≤ spent (length (iterations_among (events nest))) = (iterations_within passed next cursor behind).1 in omega arith

@@ -1,20 +1,20 @@
 -- The course: each row keeps what the cursor says of the nest, and what is counted.
-use Rattle.std.proofs.Common.{◌≡◌, ℕ, zero, suc, ◌+◌, ◌%◌, ◌<◌, ◌≤◌, ◌⊎◌, ℤ, Bool, true, false, Option, Some, None, IsSome, List, [], ◌∷◌, ◌++◌, length, refl, sym, ap, ◌∙◌, subst, inl, inr, ⊎_elim, arith}
+use Rattle.std.proofs.Common.{◌≡◌, ℕ, suc, ◌+◌, ◌<◌, false, Option, Some, None, IsSome, List, [], ◌∷◌, ◌++◌, length, refl, sym, ap, ◌∙◌, subst, ⊎_elim, arith}
 use Rattle.std.proofs.lemmas.Bool.{cases_lt, true≢false}
 use Rattle.nest_syntax.specs.declared.place.Place.{Place}
 use Rattle.nest_syntax.specs.Course.{Purpose, Ordinary, Header}
-use Rattle.nest_syntax.specs.Outcome.{TrappedAt, Event as Passed, Computes, Drains, Iterates, Closes, Ends, place_of_trap, iterations_among}
+use Rattle.nest_syntax.specs.Outcome.{Event as Passed, Computes, Drains, Iterates, Closes, Ends, place_of_trap, iterations_among}
 use Rattle.settle_law.specs.Cuts.{Cut, plain}
 use Rattle.settle_law.specs.Traces.{Access}
-use Rattle.settle_law.specs.Courses.{Nest, Trap, Event, End, Scalar, Drain, Iterate, Close, Behind, AtEvent, Onward, TrapsThere, cut_at, family_of, iteration_at, reached, outcome}
+use Rattle.settle_law.specs.Courses.{Nest, Trap, Event, Scalar, Drain, Iterate, Close, Behind, AtEvent, Onward, family_of, iteration_at}
 use Rattle.settle_law.proofs.Cursors.{at_event}
 use Rattle.settle_law.proofs.Nests.{family_at}
 use Rattle.domore_core.specs.Waits.{Wait}
 use Rattle.domore_core.specs.Facts.{Facts, no_facts, computed, drained, iterated, counted, facts_from}
-use Rattle.domore_core.specs.Machine.{Setup, State, Seat, Move, DoScalar, DoClose, DoDrain, DoDispatch, DoHalt, DoTake, DoPass, DoRead, DoWrite, DoGo, DoFinish, DoTrap, DoDropHeld, DoDropQueued, DoEnd, least_trap, trap_after, worker_after, state_after, scalar_after, waits}
+use Rattle.domore_core.specs.Machine.{Setup, State, Move, DoScalar, DoClose, DoDrain, DoDispatch, DoHalt, DoTake, DoPass, DoRead, DoWrite, DoGo, DoFinish, DoTrap, DoDropHeld, DoDropQueued, DoEnd, least_trap, worker_after, state_after, scalar_after, waits}
 use Rattle.domore_core.specs.Theorems.{IsSetupFor}
 use Rattle.domore_core.specs.Invariant.{AllTickets, Guarded, AllParts, WordsKept, Going, EarlyTrap, LateTrap, CourseKept}
-use Rattle.domore_core.proofs.Guards.{Guard, Holds, IsIdle, IsFree}
+use Rattle.domore_core.proofs.Guards.{Guard, Holds, IsFree}
 use Rattle.domore_core.proofs.Tickets.{held, least_is}
 use Rattle.domore_core.proofs.Textual.{all_finished_at, words_are}
 
@@ -64,25 +64,26 @@ module _ {B C P : Type 0} (m : Setup B C P) (nest : Nest) (tree : B → Cut) (st
 
   trap_row : (u k : ℕ) (piece : P) (cause : _) (line : _) → Holds m s u k [] piece → CourseKept m nest tree (worker_after m s u (DoTrap k cause line))
   trap_row u k piece cause line h = record {
-      going = λ none. absurd (cc);
-      known = i.known;
-      early = early s.trap i.early;
-      late = late s.trap i.late;
-      over = λ over none. absurd (cc);
-    }
+    going = λ none. absurd (cc);
+    known = i.known;
+    early = early s.trap i.early;
+    late = late s.trap i.late;
+    over = λ over none. absurd (cc);
+  }
     where
       early : (trap : Option Place) → EarlyTrap nest s.next trap → EarlyTrap nest s.next (Some (least_trap trap (place_of_trap cause line k false)))
       early None old = λ scheduler. cc
       early (Some t) old = ⊎_elim
-        (λ is. subst (λ x. EarlyTrap nest s.next (Some x)) (sym is.0) (λ scheduler. cc))
-        (λ is. subst (λ x. EarlyTrap nest s.next (Some x)) (sym is.0) old)
-        (least_is t (place_of_trap cause line k false))
+          (λ is. subst (λ x. EarlyTrap nest s.next (Some x)) (sym is.0) (λ scheduler. cc))
+          (λ is. subst (λ x. EarlyTrap nest s.next (Some x)) (sym is.0) old)
+          (least_is t (place_of_trap cause line k false))
+
       late : (trap : Option Place) → LateTrap s.next trap → LateTrap s.next (Some (least_trap trap (place_of_trap cause line k false)))
       late None old = λ worker. (held m s tickets u k [] piece h.own h.hand).rises.2
       late (Some t) old = ⊎_elim
-        (λ is. subst (λ x. LateTrap s.next (Some x)) (sym is.0) (λ worker. (held m s tickets u k [] piece h.own h.hand).rises.2))
-        (λ is. subst (λ x. LateTrap s.next (Some x)) (sym is.0) old)
-        (least_is t (place_of_trap cause line k false))
+          (λ is. subst (λ x. LateTrap s.next (Some x)) (sym is.0) (λ worker. (held m s tickets u k [] piece h.own h.hand).rises.2))
+          (λ is. subst (λ x. LateTrap s.next (Some x)) (sym is.0) old)
+          (least_is t (place_of_trap cause line k false))
 
   -- an event of the scheduler that is no iteration, with what it counts
   onward : (u : ℕ) (this : Passed) (purpose : Purpose) (facts : Facts) (trap : Option Trap) (rest : C) → IsFree m s u → (going : Going m nest tree s) → Onward nest tree m.event going.passed s.next this trap rest → counted (waits m) s.facts this ≡ computed purpose facts → CourseKept m nest tree (scalar_after m (record s { facts = facts }) purpose trap rest)
@@ -107,32 +108,32 @@ module _ {B C P : Type 0} (m : Setup B C P) (nest : Nest) (tree : B → Cut) (st
 
   dispatched : (b : B) (rest : C) → s.trap ≡ None → s.halted ≡ false → (going : Going m nest tree s) → AtEvent nest tree m.event going.passed s.next (Iterate b rest) → CourseKept m nest tree (state_after m s m.width (DoDispatch b rest))
   dispatched b rest none on going (it, at, same, behind) = record {
-      going = λ untrapped. record {
-        passed = going.passed ++ Iterates it.0 it.1 ∷ [];
-        behind = behind;
-        counted = sym (facts_append (waits m) no_facts going.passed (Iterates it.0 it.1 ∷ []) ∙ ap (λ f. iterated (waits m f.iterations) f) (sym going.counted) ∙ ap (λ n. iterated (waits m n) s.facts) number);
-      };
-      known = λ k lt. ⊎_elim (λ l. i.known k l) (λ ge. let is : k ≡ s.next = omega arith in subst (λ x. IsSome (iteration_at nest x)) (sym is) (subst IsSome (sym at) refl)) (cases_lt k s.next);
-      early = subst (EarlyTrap nest (suc s.next)) (sym none) tt;
-      late = subst (LateTrap (suc s.next)) (sym none) tt;
-      over = λ over untrapped. absurd (true≢false (sym over ∙ on));
-    }
+    going = λ untrapped. record {
+      passed = going.passed ++ Iterates it.0 it.1 ∷ [];
+      behind = behind;
+      counted = sym (facts_append (waits m) no_facts going.passed (Iterates it.0 it.1 ∷ []) ∙ ap (λ f. iterated (waits m f.iterations) f) (sym going.counted) ∙ ap (λ n. iterated (waits m n) s.facts) number);
+    };
+    known = λ k lt. ⊎_elim (λ l. i.known k l) (λ ge. let is : k ≡ s.next = omega arith in subst (λ x. IsSome (iteration_at nest x)) (sym is) (subst IsSome (sym at) refl)) (cases_lt k s.next);
+    early = subst (EarlyTrap nest (suc s.next)) (sym none) tt;
+    late = subst (LateTrap (suc s.next)) (sym none) tt;
+    over = λ over untrapped. absurd (true≢false (sym over ∙ on));
+  }
     where
       number : s.facts.iterations ≡ s.next
       number = let c : s.facts.iterations ≡ (facts_from (waits m) no_facts going.passed).iterations = ap (λ (f : Facts). f.iterations) going.counted in
-        let d : (facts_from (waits m) no_facts going.passed).iterations ≡ 0 + length (iterations_among going.passed) = counts_iterations (waits m) no_facts going.passed in
-        let e : length (iterations_among going.passed) ≡ s.next = going.behind.counts in
-        omega arith
+          let d : (facts_from (waits m) no_facts going.passed).iterations ≡ 0 + length (iterations_among going.passed) = counts_iterations (waits m) no_facts going.passed in
+          let e : length (iterations_among going.passed) ≡ s.next = going.behind.counts in
+          omega arith
 
   -- each row keeps the course
   pub course_row : (u : ℕ) (move : Move B C P) → Guard m s u move → CourseKept m nest tree (state_after m s u move)
   course_row u (DoScalar purpose trap rest) (free, is) = onward u (Computes purpose) purpose s.facts trap rest free (i.going free.untrapped) (event_is (Scalar purpose trap rest) (i.going free.untrapped) is) refl
   course_row u (DoClose rest) (free, is) = let k = onward u Closes Ordinary s.facts None rest free (i.going free.untrapped) (event_is (Close rest) (i.going free.untrapped) is) refl in k
   course_row u (DoDrain purpose trap rest) (traps, rests, free, is, trap_is, rest_is, all) = let going = i.going free.untrapped in
-    onward u (Drains purpose) purpose (drained s.facts) trap rest free going
+      onward u (Drains purpose) purpose (drained s.facts) trap rest free going
       (subst (λ x. Onward nest tree m.event going.passed s.next (Drains purpose) x rest) trap_is
-        (subst (λ x. Onward nest tree m.event going.passed s.next (Drains purpose) (traps s.words) x) rest_is
-          (event_is (Drain purpose traps rests) going is s.words (words_are m nest tree start setup s trace guards words parts i.known (λ k lt. all_finished_at m.width s.next k s.seats all lt)))))
+      (subst (λ x. Onward nest tree m.event going.passed s.next (Drains purpose) (traps s.words) x) rest_is
+      (event_is (Drain purpose traps rests) going is s.words (words_are m nest tree start setup s trace guards words parts i.known (λ k lt. all_finished_at m.width s.next k s.seats all lt)))))
       refl
   course_row u (DoDispatch b rest) (free, is, room) = let d = dispatched b rest free.untrapped free.going (i.going free.untrapped) (event_is (Iterate b rest) (i.going free.untrapped) is) in record { going = λ none. let g = d.going none in record { passed = g.passed; behind = g.behind; counted = g.counted }; known = d.known; early = d.early; late = d.late; over = d.over }
   course_row u DoHalt (actor, on, at_end) = record {

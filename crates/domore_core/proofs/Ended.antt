@@ -1,19 +1,17 @@
 -- Actors whose parts are ended.
-use Rattle.std.proofs.Common.{◌≡◌, ℕ, zero, suc, ◌+◌, ◌%◌, ◌<◌, ◌≤◌, ◌⊎◌, Bool, true, false, ◌&&◌, if◌then◌else◌, ◌==◌, Option, Some, None, List, [], ◌∷◌, length, nat_lt, slice_set, refl, sym, ap, ◌∙◌, subst, inl, inr, ⊎_elim, arith}
+use Rattle.std.proofs.Common.{◌≡◌, ℕ, suc, ◌+◌, ◌%◌, ◌<◌, Bool, true, false, if◌then◌else◌, ◌==◌, Some, None, List, [], ◌∷◌, length, nat_lt, slice_set, refl, sym, ap, ◌∙◌, subst, arith}
 use Rattle.std.proofs.lemmas.Bool.{true≢false, and_parts, and_from, lt-ltb, le-ltb, eq-eqb, ltb-true}
 use Rattle.std.proofs.lemmas.Nat.{mod_below}
 use Rattle.std.specs.Option.{option_map}
 use Rattle.std.specs.List.{list_all}
-use Rattle.settle_law.specs.Cuts.{Cut}
-use Rattle.settle_law.specs.Courses.{Nest, Trap}
-use Rattle.domore_core.specs.Machine.{Setup, State, Seat, Hand, Idle, Holding, Gone, Ticket, Move, DoScalar, DoClose, DoDrain, DoDispatch, DoHalt, DoTake, DoPass, DoRead, DoWrite, DoGo, DoFinish, DoTrap, DoDropHeld, DoDropQueued, DoEnd, seat_at, is_gone, going_move, scheduler_move, worker_move, move_of, seat_with, ticket_of, seat_after, state_after, step, ended_actor}
+use Rattle.domore_core.specs.Machine.{Setup, State, Seat, Hand, Idle, Holding, Gone, Ticket, Move, DoScalar, DoClose, DoDrain, DoDispatch, DoHalt, DoTake, DoPass, DoRead, DoWrite, DoGo, DoFinish, DoTrap, DoDropHeld, DoDropQueued, DoEnd, seat_at, is_gone, going_move, worker_move, move_of, seat_with, ticket_of, seat_after, state_after, ended_actor}
 use Rattle.domore_core.specs.Runs.{is_finished}
 use Rattle.domore_core.specs.Theorems.{EndedHaveNoStep, EndedStay, FinishedIsAllEnded}
-use Rattle.domore_core.specs.Invariant.{AllTickets, Invariant}
+use Rattle.domore_core.specs.Invariant.{AllTickets}
 use Rattle.domore_core.proofs.Guards.{Guard, IsStep, step_is}
 use Rattle.domore_core.proofs.Seats.{each_set}
 use Rattle.domore_core.proofs.Tickets.{inside}
-use Rattle.domore_core.proofs.Finished.{hand_gone, all_at}
+use Rattle.domore_core.proofs.Finished.{all_at}
 use Rattle.domore_core.proofs.Runs.{invariant_holds}
 
 module _ {B C P : Type 0} (m : Setup B C P) (s : State B C P) where
@@ -111,6 +109,7 @@ module _ {B C P : Type 0} (m : Setup B C P) (s : State B C P) (tickets : AllTick
     where
       scheduler : ended_actor m s m.width ≡ true → s.halted ≡ true
       scheduler ended = rw (le-ltb m.width m.width (omega arith), eq-eqb m.width m.width refl) at ended
+
       worker : (u : ℕ) → u < m.width → ended_actor m s u ≡ true → is_gone (seat u).hand ≡ true
       worker u own ended = rw (lt-ltb u m.width own) at ended
 
@@ -122,11 +121,11 @@ stay B C P m nest tree start setup history s t actor other leads ended e = go (s
   where
     go : IsStep m s other t → ended_actor m t actor ≡ true
     go is = let i = invariant_holds m nest tree start setup history s leads in
-      ended_kept m s i.tickets t actor
+        ended_kept m s i.tickets t actor
         (λ v gone. subst (λ x. is_gone (seat_at x.seats v).hand ≡ true) (sym is.behind) (gone_kept m s i.tickets other is.move setup.some_worker is.guard v gone))
         (λ over. subst (λ x. x.halted ≡ true) (sym is.behind) (over_kept m s i.tickets other is.move over))
         ended
 
 pub finishes : (B C P : Type 0) → FinishedIsAllEnded B C P
 finishes B C P m nest tree start setup history s leads = let i = invariant_holds m nest tree start setup history s leads in
-  ((λ finished actor lt. all_ended m s i.tickets finished actor), finished_from m s i.tickets)
+    ((λ finished actor lt. all_ended m s i.tickets finished actor), finished_from m s i.tickets)

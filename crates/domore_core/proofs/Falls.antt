@@ -1,6 +1,5 @@
 -- The measure falls at each step, so histories are bounded.
-use Rattle.std.proofs.Common.{◌≡◌, ℕ, zero, suc, ◌+◌, ◌%◌, ◌<◌, ◌≤◌, ◌⊎◌, ℤ, Bool, true, false, Option, Some, None, List, [], ◌∷◌, ◌++◌, length, replicate, slice_set, refl, sym, ap, ◌∙◌, subst, inl, inr, ⊎_elim, arith}
-use Rattle.std.proofs.lemmas.Bool.{true≢false}
+use Rattle.std.proofs.Common.{◌≡◌, ℕ, zero, suc, ◌+◌, ◌%◌, ◌<◌, ◌≤◌, ℤ, Bool, true, false, Option, Some, None, List, [], ◌∷◌, ◌++◌, length, replicate, slice_set, refl, sym, ap, ◌∙◌, subst, arith}
 use Rattle.std.proofs.lemmas.Nat.{mod_below}
 use Rattle.std.proofs.lemmas.List.Sums.{sum_by-set, sum_by_push, sum_by-cons}
 use Rattle.std.specs.List.{sum_by}
@@ -11,15 +10,15 @@ use Rattle.nest_syntax.specs.Outcome.{place_of_trap}
 use Rattle.settle_law.specs.Cuts.{Cut}
 use Rattle.settle_law.specs.Traces.{Access}
 use Rattle.settle_law.specs.Tasks.{Loads}
-use Rattle.settle_law.specs.Courses.{Nest, Trap, Event, End, Scalar, Drain, Iterate, Close, Behind, events, family_of, reached}
+use Rattle.settle_law.specs.Courses.{Nest, Trap, Event, Scalar, Drain, Iterate, Close, events, family_of}
 use Rattle.settle_law.proofs.Tasks.{left_read, left_told, left_write, left_go}
 use Rattle.settle_law.proofs.Cursors.{begins}
 use Rattle.domore_core.specs.Waits.{Wait}
-use Rattle.domore_core.specs.Machine.{Setup, State, Seat, Hand, Idle, Holding, Gone, Ticket, Move, DoScalar, DoClose, DoDrain, DoDispatch, DoHalt, DoTake, DoPass, DoRead, DoWrite, DoGo, DoFinish, DoTrap, DoDropHeld, DoDropQueued, DoEnd, opening_seat, seat_at, done_at, seat_after, trap_after, worker_after, state_after, scalar_after, seat_with, ticket_of, opening, step, waits}
+use Rattle.domore_core.specs.Machine.{Setup, State, Seat, Hand, Idle, Holding, Ticket, Move, DoScalar, DoClose, DoDrain, DoDispatch, DoHalt, DoTake, DoPass, DoRead, DoWrite, DoGo, DoFinish, DoTrap, DoDropHeld, DoDropQueued, DoEnd, opening_seat, seat_at, seat_after, trap_after, worker_after, state_after, scalar_after, seat_with, ticket_of, opening, step, waits}
 use Rattle.domore_core.specs.Runs.{run, made_by, trace_from}
-use Rattle.domore_core.specs.Theorems.{IsSetupFor, Leads}
+use Rattle.domore_core.specs.Theorems.{IsSetupFor}
 use Rattle.domore_core.specs.Measure.{behind_trap, iteration_weight, ticket_weight, hand_weight, seat_weight, event_weight, ahead, going_weight, scheduler_weight, measure, Costs, bound, sum_below, StepsFall, HistoriesAreBounded, OpeningIsWithinBound}
-use Rattle.domore_core.specs.Invariant.{Going, Invariant}
+use Rattle.domore_core.specs.Invariant.{Invariant}
 use Rattle.domore_core.proofs.Guards.{Guard, Holds, IsIdle, IsFree, IsStep, step_is}
 use Rattle.domore_core.proofs.Tickets.{inside}
 use Rattle.domore_core.proofs.Parts.{left_at}
@@ -68,8 +67,8 @@ module _ {B C P : Type 0} (m : Setup B C P) (nest : Nest) (tree : B → Cut) (st
 
   going_is : (event : Event B C) (u : ℕ) → IsFree m s u → m.event s.cursor ≡ event → scheduler_weight m nest s.halted s.cursor s.next s.trap ≡ suc (event_weight m nest (ahead m nest most) s.next event)
   going_is event u free is = ap (λ b. scheduler_weight m nest b s.cursor s.next s.trap) free.going
-    ∙ ap (λ t. going_weight m nest s.cursor s.next t) free.untrapped
-    ∙ ap suc (ahead_is m nest tree (i.course.going free.untrapped).passed s.next s.cursor (i.course.going free.untrapped).behind ∙ ap (event_weight m nest (ahead m nest most) s.next) is)
+      ∙ ap (λ t. going_weight m nest s.cursor s.next t) free.untrapped
+      ∙ ap suc (ahead_is m nest tree (i.course.going free.untrapped).passed s.next s.cursor (i.course.going free.untrapped).behind ∙ ap (event_weight m nest (ahead m nest most) s.next) is)
 
   still_going : (halted : Bool) (trap : Option Place) (cursor : C) (next : ℕ) → halted ≡ false → trap ≡ None → scheduler_weight m nest halted cursor next trap ≡ suc (ahead m nest most cursor next)
   still_going halted trap cursor next on none = ap (λ b. scheduler_weight m nest b cursor next trap) on ∙ ap (going_weight m nest cursor next) none
@@ -77,22 +76,22 @@ module _ {B C P : Type 0} (m : Setup B C P) (nest : Nest) (tree : B → Cut) (st
   -- an event that is no iteration
   onward_falls : (u : ℕ) (t : State B C P) (purpose : _) (trap : Option Trap) (rest : C) → IsFree m s u → t.seats ≡ s.seats → t.next ≡ s.next → t.halted ≡ s.halted → t.trap ≡ s.trap → scheduler_weight m nest s.halted s.cursor s.next s.trap ≡ suc (suc (behind_trap trap (ahead m nest most rest s.next))) → measure m nest (scalar_after m t purpose trap rest) < measure m nest s
   onward_falls u t purpose None rest free seats next halted trap is =
-    let a : seats_weight t.seats ≡ seats_weight s.seats = ap seats_weight seats in
-    let b : scheduler_weight m nest t.halted rest t.next t.trap ≡ suc (ahead m nest most rest s.next) = still_going t.halted t.trap rest t.next (halted ∙ free.going) (trap ∙ free.untrapped) ∙ ap (λ n. suc (ahead m nest most rest n)) next in
-    omega arith
+      let a : seats_weight t.seats ≡ seats_weight s.seats = ap seats_weight seats in
+      let b : scheduler_weight m nest t.halted rest t.next t.trap ≡ suc (ahead m nest most rest s.next) = still_going t.halted t.trap rest t.next (halted ∙ free.going) (trap ∙ free.untrapped) ∙ ap (λ n. suc (ahead m nest most rest n)) next in
+      omega arith
   onward_falls u t purpose (Some x) rest free seats next halted trap is =
-    let a : seats_weight t.seats ≡ seats_weight s.seats = ap seats_weight seats in
-    let b : scheduler_weight m nest t.halted t.cursor t.next (Some (place_of_trap x.cause x.line t.next true)) ≡ 1 = ap (λ h. scheduler_weight m nest h t.cursor t.next (Some (place_of_trap x.cause x.line t.next true))) (halted ∙ free.going) in
-    omega arith
+      let a : seats_weight t.seats ≡ seats_weight s.seats = ap seats_weight seats in
+      let b : scheduler_weight m nest t.halted t.cursor t.next (Some (place_of_trap x.cause x.line t.next true)) ≡ 1 = ap (λ h. scheduler_weight m nest h t.cursor t.next (Some (place_of_trap x.cause x.line t.next true))) (halted ∙ free.going) in
+      omega arith
 
   dispatch_falls : (u : ℕ) (b : B) (rest : C) → IsFree m s u → m.event s.cursor ≡ Iterate b rest → measure m nest (state_after m s u (DoDispatch b rest)) < measure m nest s
   dispatch_falls u b rest free is =
-    let v : ℕ = s.next % m.width in
-    let before : scheduler_weight m nest s.halted s.cursor s.next s.trap ≡ suc (suc (iteration_weight m nest b (waits m s.next) + ahead m nest most rest (suc s.next))) = going_is (Iterate b rest) u free is in
-    let after : scheduler_weight m nest s.halted rest (suc s.next) s.trap ≡ suc (ahead m nest most rest (suc s.next)) = still_going s.halted s.trap rest (suc s.next) free.going free.untrapped in
-    let put : sum_by (ticket_weight m nest) ((seat (s.next % m.width)).queue ++ ticket_of m s b ∷ []) ≡ sum_by (ticket_weight m nest) (seat (s.next % m.width)).queue + iteration_weight m nest b (waits m s.next) = sum_by_push (ticket_weight m nest) (seat (s.next % m.width)).queue (ticket_of m s b) in
-    let set : seats_weight (slice_set s.seats (s.next % m.width) (seat_with (seat (s.next % m.width)) (ticket_of m s b))) + seat_weight m nest (seat (s.next % m.width)) ≡ seats_weight s.seats + seat_weight m nest (seat_with (seat (s.next % m.width)) (ticket_of m s b)) = sum_by-set (seat_weight m nest) s.seats (s.next % m.width) (seat_with (seat (s.next % m.width)) (ticket_of m s b)) _ (inside m s i.tickets (s.next % m.width) (mod_below s.next m.width setup.some_worker)) in
-    omega arith
+      let v : ℕ = s.next % m.width in
+      let before : scheduler_weight m nest s.halted s.cursor s.next s.trap ≡ suc (suc (iteration_weight m nest b (waits m s.next) + ahead m nest most rest (suc s.next))) = going_is (Iterate b rest) u free is in
+      let after : scheduler_weight m nest s.halted rest (suc s.next) s.trap ≡ suc (ahead m nest most rest (suc s.next)) = still_going s.halted s.trap rest (suc s.next) free.going free.untrapped in
+      let put : sum_by (ticket_weight m nest) ((seat (s.next % m.width)).queue ++ ticket_of m s b ∷ []) ≡ sum_by (ticket_weight m nest) (seat (s.next % m.width)).queue + iteration_weight m nest b (waits m s.next) = sum_by_push (ticket_weight m nest) (seat (s.next % m.width)).queue (ticket_of m s b) in
+      let set : seats_weight (slice_set s.seats (s.next % m.width) (seat_with (seat (s.next % m.width)) (ticket_of m s b))) + seat_weight m nest (seat (s.next % m.width)) ≡ seats_weight s.seats + seat_weight m nest (seat_with (seat (s.next % m.width)) (ticket_of m s b)) = sum_by-set (seat_weight m nest) s.seats (s.next % m.width) (seat_with (seat (s.next % m.width)) (ticket_of m s b)) _ (inside m s i.tickets (s.next % m.width) (mod_below s.next m.width setup.some_worker)) in
+      omega arith
 
   halt_falls : s.halted ≡ false → measure m nest (state_after m s m.width DoHalt) < measure m nest s
   halt_falls on = let a : scheduler_weight m nest s.halted s.cursor s.next s.trap ≡ going_weight m nest s.cursor s.next s.trap = ap (λ b. scheduler_weight m nest b s.cursor s.next s.trap) on in let b : 1 ≤ going_weight m nest s.cursor s.next s.trap = some s.trap in omega arith
@@ -106,7 +105,7 @@ module _ {B C P : Type 0} (m : Setup B C P) (nest : Nest) (tree : B → Cut) (st
   falls_row u (DoScalar purpose trap rest) (free, is) = onward_falls u s purpose trap rest free refl refl refl refl (going_is (Scalar purpose trap rest) u free is)
   falls_row u (DoClose rest) (free, is) = let a : scheduler_weight m nest s.halted s.cursor s.next s.trap ≡ suc (suc (ahead m nest most rest s.next)) = going_is (Close rest) u free is in let b : scheduler_weight m nest s.halted rest s.next s.trap ≡ suc (ahead m nest most rest s.next) = still_going s.halted s.trap rest s.next free.going free.untrapped in omega arith
   falls_row u (DoDrain purpose trap rest) (traps, rests, free, is, trap_is, rest_is, all) = onward_falls u (record s { facts = _ }) purpose trap rest free refl refl refl refl
-    (going_is (Drain purpose traps rests) u free is
+      (going_is (Drain purpose traps rests) u free is
       ∙ ap (λ o. suc (option_map_or (λ words. suc (behind_trap (traps words) (ahead m nest most (rests words) s.next))) o 0)) (words_are m nest tree start setup s trace i.guarded i.words i.parts i.course.known (λ k lt. all_finished_at m.width s.next k s.seats all lt))
       ∙ ap (λ t. suc (suc (behind_trap t (ahead m nest most (rests s.words) s.next)))) trap_is
       ∙ ap (λ c. suc (suc (behind_trap trap (ahead m nest most c s.next)))) rest_is)
@@ -144,9 +143,9 @@ module _ {B C P : Type 0} (m : Setup B C P) (nest : Nest) (tree : B → Cut) (st
 
   within_bound : (cost : ℕ → ℕ) → Costs m nest (length (events nest)) cost start 0 → measure m nest (opening m start nest.opening) ≤ bound nest m.width cost
   within_bound cost costs =
-    let l : ahead m nest (length (events nest)) start 0 + 0 + 0 ≤ length (events nest) + sum_below _ (λ k. cost k + m.width + 1) = bounded m nest tree cost (length (events nest)) [] 0 start (begins B C nest tree m.event start setup.follows) costs in
-    let w : sum_by (seat_weight m nest) (replicate m.width opening_seat) ≡ m.width = seats_weigh m.width in
-    omega arith
+      let l : ahead m nest (length (events nest)) start 0 + 0 + 0 ≤ length (events nest) + sum_below _ (λ k. cost k + m.width + 1) = bounded m nest tree cost (length (events nest)) [] 0 start (begins B C nest tree m.event start setup.follows) costs in
+      let w : sum_by (seat_weight m nest) (replicate m.width opening_seat) ≡ m.width = seats_weigh m.width in
+      omega arith
 
 pub falls : (B C P : Type 0) → StepsFall B C P
 falls B C P m nest tree start setup history s t actor leads e = falls_step m nest tree start setup s (trace_from m (opening m start nest.opening) history) (invariant_holds m nest tree start setup history s leads) actor t e

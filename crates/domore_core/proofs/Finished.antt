@@ -1,21 +1,21 @@
 -- Ended workers, and what a finished machine has done.
-use Rattle.std.proofs.Common.{◌≡◌, ℕ, zero, suc, ◌%◌, ◌<◌, ◌≤◌, ◌⊎◌, ℤ, Bool, true, false, ◌&&◌, Option, Some, None, IsSome, List, [], ◌∷◌, ◌++◌, length, slice_set, refl, sym, ap, ◌∙◌, subst, inl, inr, ⊎_elim, arith}
+use Rattle.std.proofs.Common.{◌≡◌, ℕ, zero, suc, ◌%◌, ◌<◌, ◌≤◌, ℤ, Bool, true, Option, Some, None, List, [], ◌∷◌, length, slice_set, refl, sym, ap, ◌∙◌, subst, ⊎_elim, arith}
 use Rattle.std.proofs.lemmas.Bool.{cases_Bool, and_parts, true≢false}
 use Rattle.std.proofs.lemmas.Nat.{mod_below}
 use Rattle.std.specs.Option.{option_map_or}
 use Rattle.std.specs.List.{list_all}
 use Rattle.nest_syntax.specs.declared.place.Place.{Place}
-use Rattle.nest_syntax.specs.Outcome.{Ending, Done, TrappedAt, Ends, place_of_trap}
+use Rattle.nest_syntax.specs.Outcome.{Done, TrappedAt, Ends, place_of_trap}
 use Rattle.settle_law.specs.Cuts.{Cut}
 use Rattle.settle_law.specs.Traces.{Access}
-use Rattle.settle_law.specs.Courses.{Nest, End, AtEvent, events, iteration_at, reached, outcome}
+use Rattle.settle_law.specs.Courses.{Nest, End, AtEvent, reached, outcome}
 use Rattle.settle_law.proofs.Cursors.{at_event}
 use Rattle.domore_core.specs.Facts.{no_facts, facts_from, facts_of}
-use Rattle.domore_core.specs.Machine.{Setup, State, Seat, Hand, Idle, Holding, Gone, Ticket, Move, DoScalar, DoClose, DoDrain, DoDispatch, DoHalt, DoTake, DoPass, DoRead, DoWrite, DoGo, DoFinish, DoTrap, DoDropHeld, DoDropQueued, DoEnd, seat_at, done_at, seat_after, worker_after, state_after, seat_with, ticket_of, is_gone, waits}
+use Rattle.domore_core.specs.Machine.{Setup, State, Seat, Hand, Idle, Holding, Gone, Move, DoScalar, DoClose, DoDrain, DoDispatch, DoHalt, DoTake, DoPass, DoRead, DoWrite, DoGo, DoFinish, DoTrap, DoDropHeld, DoDropQueued, DoEnd, seat_at, done_at, seat_after, worker_after, state_after, seat_with, ticket_of, is_gone, waits}
 use Rattle.domore_core.specs.Runs.{is_finished, ending_of}
 use Rattle.domore_core.specs.Theorems.{IsSetupFor}
-use Rattle.domore_core.specs.Invariant.{queued_numbers, held_number, IsCutBy, Fate, IsDone, IsPending, IsCut, EarlyTrap, LateTrap, TrapParts, Going, AllTickets, AllGone, Invariant}
-use Rattle.domore_core.proofs.Guards.{Guard, Holds, IsIdle, IsFree}
+use Rattle.domore_core.specs.Invariant.{IsCutBy, Fate, IsDone, IsPending, IsCut, EarlyTrap, LateTrap, TrapParts, AllTickets, AllGone, Invariant}
+use Rattle.domore_core.proofs.Guards.{Guard}
 use Rattle.domore_core.proofs.Seats.{each_set}
 use Rattle.domore_core.proofs.Tickets.{inside, tickets_at}
 use Rattle.domore_core.proofs.Textual.{words_are, traps_at}
@@ -75,6 +75,7 @@ module _ {B C P : Type 0} (m : Setup B C P) (nest : Nest) (tree : B → Cut) (st
     where
       own : k % m.width < m.width
       own = mod_below k m.width setup.some_worker
+
       go : Fate (done_at s.seats (k % m.width)) [] s.trap k → k < done_at s.seats (k % m.width)
       go (IsDone is) = is
       go (IsPending among) = elim among [ ]
@@ -95,17 +96,18 @@ module _ {B C P : Type 0} (m : Setup B C P) (nest : Nest) (tree : B → Cut) (st
   trapped : (t : Place) → s.trap ≡ Some t → outcome nest ≡ TrappedAt t
   trapped t is = ⊎_elim
       (λ scheduler. let e = subst (EarlyTrap nest s.next) is i.course.early scheduler in
-        let number : t.number ≡ s.next = e.0 in
-        e.1 s.words (words_are m nest tree start setup s trace i.guarded i.words i.parts i.course.known (λ k lt. done_unless k lt (cut k lt number))))
+      let number : t.number ≡ s.next = e.0 in
+      e.1 s.words (words_are m nest tree start setup s trace i.guarded i.words i.parts i.course.known (λ k lt. done_unless k lt (cut k lt number))))
       (λ worker. traps_at m nest tree start setup s trace i.guarded i.words i.parts i.course.known t.number t.cause t.line
-          (subst (LateTrap s.next) is i.course.late worker)
-          (λ k lt. let below : t.number < s.next = subst (LateTrap s.next) is i.course.late worker in done_unless k (omega arith) (lower k lt))
-          (subst (TrapParts _ trace) is i.parts.trapped worker)
-        ∙ ap (λ b. TrappedAt (place_of_trap t.cause t.line t.number b)) (sym worker))
+      (subst (LateTrap s.next) is i.course.late worker)
+      (λ k lt. let below : t.number < s.next = subst (LateTrap s.next) is i.course.late worker in done_unless k (omega arith) (lower k lt))
+      (subst (TrapParts _ trace) is i.parts.trapped worker)
+      ∙ ap (λ b. TrappedAt (place_of_trap t.cause t.line t.number b)) (sym worker))
       (cases_Bool t.by_scheduler)
     where
       cut : (k : ℕ) → k < s.next → t.number ≡ s.next → IsCutBy s.trap k → ⊥
       cut k lt number c = let l : t.number ≤ k = subst (λ x. IsCutBy x k) is c in omega arith
+
       lower : (k : ℕ) → k < t.number → IsCutBy s.trap k → ⊥
       lower k lt c = let l : t.number ≤ k = subst (λ x. IsCutBy x k) is c in omega arith
 

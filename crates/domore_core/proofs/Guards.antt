@@ -1,14 +1,12 @@
 -- What the move of an actor says of the state in which it is enabled.
-use Rattle.std.proofs.Common.{◌≡◌, ℕ, zero, suc, ◌%◌, ◌<◌, ℤ, Bool, true, false, if◌then◌else◌, ◌==◌, Option, Some, None, List, [], ◌∷◌, length, nat_lt, refl, sym, ap, ◌∙◌, subst, arith}
-use Rattle.std.proofs.lemmas.Bool.{ltb-true, ltb-false, eqb-true}
+use Rattle.std.proofs.Common.{◌≡◌, ℕ, ◌%◌, ◌<◌, ℤ, Bool, true, false, if◌then◌else◌, ◌==◌, Option, Some, None, List, [], ◌∷◌, length, nat_lt, refl, subst}
+use Rattle.std.proofs.lemmas.Bool.{ltb-true, eqb-true}
 use Rattle.std.specs.Option.{option_map}
-use Rattle.nest_syntax.specs.declared.names.Line.{Line}
-use Rattle.nest_syntax.specs.declared.operators.Cause.{Cause}
 use Rattle.nest_syntax.specs.declared.place.Place.{Place}
 use Rattle.settle_law.specs.Tasks.{Stop, Loads, Stores, Goes, Finishes, Traps}
 use Rattle.settle_law.specs.Courses.{Trap, Event, End, Scalar, Drain, Iterate, Close}
 use Rattle.domore_core.specs.Waits.{Wait}
-use Rattle.domore_core.specs.Machine.{Setup, State, Seat, Hand, Idle, Holding, Gone, Ticket, Move, DoScalar, DoClose, DoDrain, DoDispatch, DoHalt, DoTake, DoPass, DoRead, DoWrite, DoGo, DoFinish, DoTrap, DoDropHeld, DoDropQueued, DoEnd, seat_at, done_at, is_above, all_finished, event_move, going_move, scheduler_move, idle_move, stop_move, waiting_move, held_move, worker_move, move_of, state_after, step}
+use Rattle.domore_core.specs.Machine.{Setup, State, Hand, Idle, Holding, Gone, Ticket, Move, DoScalar, DoClose, DoDrain, DoDispatch, DoHalt, DoTake, DoPass, DoRead, DoWrite, DoGo, DoFinish, DoTrap, DoDropHeld, DoDropQueued, DoEnd, seat_at, done_at, is_above, all_finished, event_move, going_move, scheduler_move, idle_move, stop_move, waiting_move, held_move, worker_move, move_of, state_after, step}
 
 module _ {B C P : Type 0} (m : Setup B C P) (s : State B C P) where
   -- the scheduler may carry out an event
@@ -121,6 +119,7 @@ module _ {B C P : Type 0} (m : Setup B C P) (s : State B C P) where
       other : (t : Bool) → (u == m.width) ≡ t → GuardOf u (if t then scheduler_move m s else None)
       other true e = scheduler_guard u (eqb-true _ _ e)
       other false e = tt
+
       go : (t : Bool) → nat_lt u m.width ≡ t → GuardOf u (if t then worker_move m s (seat_at s.seats u).hand (seat_at s.seats u).queue else if u == m.width then scheduler_move m s else None)
       go true e = worker_guard u (seat_at s.seats u).hand (seat_at s.seats u).queue (ltb-true _ _ e) refl refl
       go false e = other (u == m.width) refl

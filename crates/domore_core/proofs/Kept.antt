@@ -1,23 +1,23 @@
 -- The trace: who has an access in it has all lower clashing iterations finished, so it replays and is in order, and leads
 -- to the present words. Each row keeps this.
-use Rattle.std.proofs.Common.{◌≡◌, ℕ, zero, suc, ◌%◌, ◌<◌, ◌≤◌, ◌⊎◌, ℤ, Bool, true, false, Option, Some, None, List, [], ◌∷◌, ◌++◌, length, slice_set, refl, sym, ap, ◌∙◌, subst, inl, inr, ⊎_elim, arith, append-nil}
+use Rattle.std.proofs.Common.{◌≡◌, ℕ, ◌%◌, ◌<◌, ◌≤◌, ℤ, true, false, Option, Some, None, List, [], ◌∷◌, ◌++◌, refl, sym, ap, ◌∙◌, subst, inl, inr, ⊎_elim, arith, append-nil}
 use Rattle.std.proofs.lemmas.Bool.{cases_lt, cases_Bool}
 use Rattle.std.proofs.lemmas.Nat.{mod_below}
 use Rattle.std.specs.Option.{option_map_or}
 use Rattle.nest_syntax.specs.Arrays.{word_at}
 use Rattle.settle_law.specs.Trees.{Tree}
 use Rattle.settle_law.specs.Cuts.{Cut, plain}
-use Rattle.settle_law.specs.Traces.{Access, Read, Write, iteration, Each, Sees, apply, settle, Conflict, part, Makes, Fits, Apart}
+use Rattle.settle_law.specs.Traces.{Access, Read, Write, iteration, Each, apply, Conflict, part, Apart}
 use Rattle.settle_law.specs.Tasks.{Loads, Stores, Left}
-use Rattle.settle_law.specs.Courses.{Nest, Trap, family_of}
+use Rattle.settle_law.specs.Courses.{Nest, family_of}
 use Rattle.settle_law.proofs.Members.{Has, each_at, each_of, each_push, has_part}
 use Rattle.settle_law.proofs.Commuting.{conflict_comm}
 use Rattle.settle_law.proofs.Push.{settle_push, replays_push, in_order_push}
 use Rattle.settle_law.proofs.Turns.{holds_write}
 use Rattle.settle_law.proofs.Tasks.{left_read, left_write}
-use Rattle.domore_core.specs.Machine.{Setup, State, Seat, Hand, Idle, Holding, Gone, Ticket, Move, DoScalar, DoClose, DoDrain, DoDispatch, DoHalt, DoTake, DoPass, DoRead, DoWrite, DoGo, DoFinish, DoTrap, DoDropHeld, DoDropQueued, DoEnd, seat_at, done_at, seat_after, worker_after, state_after, seat_with, ticket_of, accesses_of}
+use Rattle.domore_core.specs.Machine.{Setup, State, Seat, Move, DoScalar, DoClose, DoDrain, DoDispatch, DoHalt, DoTake, DoPass, DoRead, DoWrite, DoGo, DoFinish, DoTrap, DoDropHeld, DoDropQueued, DoEnd, seat_at, done_at, state_after, seat_with, ticket_of, accesses_of}
 use Rattle.domore_core.specs.Invariant.{AllTickets, AllWaits, Guarded, AllParts, WordsKept}
-use Rattle.domore_core.proofs.Guards.{Guard, Holds, IsIdle, IsFree}
+use Rattle.domore_core.proofs.Guards.{Guard, Holds}
 use Rattle.domore_core.proofs.Seats.{done_grows}
 use Rattle.domore_core.proofs.Tickets.{inside, held}
 use Rattle.domore_core.proofs.WaitsLeft.{clear_at}
@@ -103,17 +103,18 @@ module _ {B C P : Type 0} (m : Setup B C P) (nest : Nest) (tree : B → Cut) (s 
       where
         clashes : (b : Access) → Has b trace → k < iteration b → m.clashes k (iteration b) ≡ true → ⊥
         clashes b has lt clash = let t = (held m s tickets u k [] piece h.own h.hand).rises in
-          let l : k < done_at s.seats (k % m.width) = each_at (IsClear s) trace b guards has k lt clash in
-          let d : done_at s.seats u ≤ k = t.0 in
-          let e : done_at s.seats (k % m.width) ≡ done_at s.seats u = ap (done_at s.seats) t.1 in
-          omega arith
+            let l : k < done_at s.seats (k % m.width) = each_at (IsClear s) trace b guards has k lt clash in
+            let d : done_at s.seats u ≤ k = t.0 in
+            let e : done_at s.seats (k % m.width) ≡ done_at s.seats u = ap (done_at s.seats) t.1 in
+            omega arith
+
         parted : (b : Access) → Has b trace → Conflict b a → k < iteration b → m.clashes k (iteration b) ≡ false → ⊥
         parted b has conflict lt free = each_at (λ y. Conflict a y → ⊥) (part (iteration b) trace) b
-          (each_at (λ x. Each (λ y. Conflict x y → ⊥) (part (iteration b) trace)) (part k trace ++ a ∷ []) a
+            (each_at (λ x. Each (λ y. Conflict x y → ⊥) (part (iteration b) trace)) (part k trace ++ a ∷ []) a
             (apart k (iteration b) lt free (part k trace ++ a ∷ []) (part (iteration b) trace) (plain m.system.fixed new.left, new.makes) (parts.fits (iteration b)))
             (has_last (part k trace) a))
-          (has_part (iteration b) b trace has refl)
-          (conflict_comm b a conflict)
+            (has_part (iteration b) b trace has refl)
+            (conflict_comm b a conflict)
 
     read_words : (u k w : ℕ) (piece : P) (next : ℤ → P) (told : Option ℤ) → Holds m s u k [] piece → m.system.stop piece ≡ Loads w next → m.system.fixed w ≡ told → WordsKept m.system.fixed nest.opening (trace ++ option_map_or (λ x. []) told (Read k w (word_at s.words w) ∷ [])) s.words
     read_words u k w piece next None h stop is = record {

@@ -5,7 +5,6 @@ pub mod Need
 pub mod WaitsLeft
 pub mod Parts
 pub mod Kept
-pub mod Fixed
 pub mod Textual
 pub mod Course
 pub mod Finished
@@ -14,3 +13,6 @@ pub mod Progress
 pub mod Ahead
 pub mod Falls
 pub mod Ended
+pub mod Sample
+pub mod Counting
+pub mod Free

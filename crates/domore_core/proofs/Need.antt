@@ -1,8 +1,8 @@
 -- The waits of an iteration: they are of lower iterations, and cover each one of another worker whose claims clash.
-use Rattle.std.proofs.Common.{◌≡◌, ℕ, zero, suc, ◌+◌, ◌%◌, ◌<◌, ◌≤◌, ◌⊎◌, Bool, true, false, ◌&&◌, if◌then◌else◌, ◌==◌, Option, Some, None, List, [], ◌∷◌, ◌++◌, length, refl, sym, ap, ◌∙◌, subst, inl, inr, ⊎_elim, arith, length-append}
-use Rattle.std.proofs.lemmas.Bool.{eq-eqb, ne_eqb, eqb-true, cases_eq, cases_lt, and_parts, and_from}
+use Rattle.std.proofs.Common.{◌≡◌, ℕ, zero, suc, ◌%◌, ◌<◌, ◌≤◌, Bool, true, false, ◌&&◌, if◌then◌else◌, ◌==◌, Option, Some, None, List, [], ◌∷◌, ◌++◌, length, refl, sym, ap, ◌∙◌, inl, inr, ⊎_elim, arith, length-append}
+use Rattle.std.proofs.lemmas.Bool.{eq-eqb, ne_eqb, eqb-true, cases_lt, and_parts, and_from}
 use Rattle.std.proofs.lemmas.Nat.{mod_below}
-use Rattle.domore_core.specs.Waits.{Wait, greatest_clash, need, wait_for, waits_below, waits_of}
+use Rattle.domore_core.specs.Waits.{Wait, greatest_clash, need, wait_for, waits_below, waits_of, Clashes, IsGreatest, NeedsAreGreatest}
 use Rattle.domore_core.specs.Invariant.{Each, Covers, IsWaitOf}
 use Rattle.domore_core.proofs.Seats.{each_append}
 
@@ -10,18 +10,18 @@ module _ (clashes : ℕ → ℕ → Bool) (width k : ℕ) where
   -- a number that is found is of the worker, and below n
   abbrev pub IsFound : ℕ → ℕ → Option ℕ → Type 0
   IsFound u n None = Unit {0}
-  IsFound u n (Some j) = (j < n) × (j % width ≡ u)
+  IsFound u n (Some j) = (j < n) × (j % width ≡ u) × (clashes j k ≡ true)
 
   found_more : (u n : ℕ) (o : Option ℕ) → IsFound u n o → IsFound u (suc n) o
   found_more u n None f = tt
-  found_more u n (Some j) f = let l : j < n = f.0 in (omega arith, f.1)
+  found_more u n (Some j) f = let l : j < n = f.0 in (omega arith, f.1, f.2)
 
   found : (u n : ℕ) → IsFound u n (greatest_clash clashes width k u n)
   found u zero = tt
   found u (suc j) = go ((j % width == u) && clashes j k) refl (found u j)
     where
       go : (t : Bool) → ((j % width == u) && clashes j k) ≡ t → IsFound u j (greatest_clash clashes width k u j) → IsFound u (suc j) (if t then Some j else greatest_clash clashes width k u j)
-      go true e more = (omega arith, eqb-true _ _ (and_parts _ _ e).0)
+      go true e more = (omega arith, eqb-true _ _ (and_parts _ _ e).0, (and_parts (j % width == u) (clashes j k) e).1)
       go false e more = found_more u j (greatest_clash clashes width k u j) more
 
   -- it is the greatest
@@ -36,10 +36,10 @@ module _ (clashes : ℕ → ℕ → Bool) (width k : ℕ) where
       go : (t : Bool) → ((j % width == u) && clashes j k) ≡ t → (i < j → IsAtLeast i (greatest_clash clashes width k u j)) → IsAtLeast i (if t then Some j else greatest_clash clashes width k u j)
       go true e more = omega arith
       go false e more = ⊎_elim more
-        (λ ge. let same : i ≡ j = omega arith in
+          (λ ge. let same : i ≡ j = omega arith in
           let both : ((j % width == u) && clashes j k) ≡ true = and_from _ _ (eq-eqb _ _ (ap (λ x. x % width) (sym same) ∙ own)) (ap (λ x. clashes x k) (sym same) ∙ clash) in
           absurd (cc))
-        (cases_lt i j)
+          (cases_lt i j)
 
   covers_left : (xs ys : List Wait) (j : ℕ) → Covers width xs j → Covers width (xs ++ ys) j
   covers_left [] ys j c = elim c [ ]
@@ -64,13 +64,13 @@ module _ (clashes : ℕ → ℕ → Bool) (width k : ℕ) where
   below_covers : (n j : ℕ) → j < k → j % width < n → (j % width ≡ k % width → ⊥) → clashes j k ≡ true → Covers width (waits_below clashes width k n) j
   below_covers zero j lt below other clash = absurd (omega arith)
   below_covers (suc u) j lt below other clash = ⊎_elim
-    (λ l. covers_left (waits_below clashes width k u) (on_worker u) j (below_covers u j lt l other clash))
-    (λ ge. covers_right (waits_below clashes width k u) (on_worker u) j (on_worker_covers u j lt (omega arith) other clash))
-    (cases_lt (j % width) u)
+      (λ l. covers_left (waits_below clashes width k u) (on_worker u) j (below_covers u j lt l other clash))
+      (λ ge. covers_right (waits_below clashes width k u) (on_worker u) j (on_worker_covers u j lt (omega arith) other clash))
+      (cases_lt (j % width) u)
 
   need_waits : (u : ℕ) (o : Option ℕ) → IsFound u k o → Each (IsWaitOf width k) (wait_for u o)
   need_waits u None f = tt
-  need_waits u (Some j) f = (f, tt)
+  need_waits u (Some j) f = ((f.0, f.1), tt)
 
   on_worker_waits : (u : ℕ) → Each (IsWaitOf width k) (on_worker u)
   on_worker_waits u = go (k % width == u)
@@ -109,3 +109,11 @@ waits_cover clashes width k j some lt clash other = below_covers clashes width k
 -- there are no more than workers
 pub waits_few : (clashes : ℕ → ℕ → Bool) (width k : ℕ) → length (waits_of clashes width k) ≤ width
 waits_few clashes width k = below_few clashes width k width
+
+-- what is needed is the greatest
+pub needs_are_greatest : NeedsAreGreatest
+needs_are_greatest clashes width k u = go (need clashes width k u) (found clashes width k u k) (λ i c. greatest clashes width k u k i c.lower c.own c.clash)
+  where
+    go : (o : Option ℕ) → IsFound clashes width k u k o → ((i : ℕ) → Clashes clashes width k u i → IsAtLeast clashes width k i o) → IsGreatest clashes width k u o
+    go None f least = least
+    go (Some j) f least = (record { lower = f.0; own = f.1; clash = f.2 }, least)

@@ -1,5 +1,5 @@
 -- The parts of the iterations in the trace: each row keeps what they are.
-use Rattle.std.proofs.Common.{◌≡◌, ℕ, zero, suc, ◌%◌, ◌<◌, ◌≤◌, ◌⊎◌, ℤ, Bool, true, false, Option, Some, None, List, [], ◌∷◌, ◌++◌, length, slice_set, refl, sym, ap, ◌∙◌, subst, inl, inr, ⊎_elim, arith, append-nil}
+use Rattle.std.proofs.Common.{◌≡◌, ℕ, suc, ◌%◌, ◌<◌, ◌≤◌, ℤ, true, false, Option, Some, None, List, [], ◌∷◌, ◌++◌, slice_set, refl, sym, ap, ◌∙◌, subst, ⊎_elim, arith, append-nil}
 use Rattle.std.proofs.lemmas.Bool.{cases_eq, cases_lt}
 use Rattle.std.proofs.lemmas.Nat.{mod_below}
 use Rattle.std.specs.Option.{option_map_or}
@@ -12,15 +12,15 @@ use Rattle.settle_law.specs.Trees.{Tree}
 use Rattle.settle_law.specs.Trees as trees
 use Rattle.settle_law.specs.Cuts.{Cut, plain, HoldsFixed}
 use Rattle.settle_law.specs.Traces.{Access, Read, Write, iteration, part, Makes, Fits, IsFinished, IsTrapped}
-use Rattle.settle_law.specs.Tasks.{Stop, Loads, Stores, Goes, Finishes, Traps, System, Realises, Left}
-use Rattle.settle_law.specs.Courses.{Nest, Trap, Iterate, family_of}
+use Rattle.settle_law.specs.Tasks.{Loads, Finishes, Traps, Realises, Left}
+use Rattle.settle_law.specs.Courses.{Nest, Iterate, family_of}
 use Rattle.settle_law.proofs.Push.{part_push_own, part_push_other}
 use Rattle.settle_law.proofs.Tasks.{left_read, left_told, left_write, left_go, left_finished, left_trapped, left_begins}
 use Rattle.domore_core.specs.Waits.{Wait}
 use Rattle.domore_core.specs.Machine.{Setup, State, Seat, Hand, Idle, Holding, Gone, Ticket, Move, DoScalar, DoClose, DoDrain, DoDispatch, DoHalt, DoTake, DoPass, DoRead, DoWrite, DoGo, DoFinish, DoTrap, DoDropHeld, DoDropQueued, DoEnd, seat_at, done_at, least_trap, seat_after, trap_after, worker_after, state_after, seat_with, ticket_of, accesses_of}
-use Rattle.domore_core.specs.Invariant.{Each, queued_numbers, In, Rises, Fate, IsDone, IsPending, IsCut, AllTickets, HandParts, SeatParts, TrapParts, AllParts}
-use Rattle.domore_core.proofs.Guards.{Guard, Holds, IsIdle, IsFree}
-use Rattle.domore_core.proofs.Seats.{each_set, each_map, each_push}
+use Rattle.domore_core.specs.Invariant.{Each, queued_numbers, Rises, Fate, IsDone, IsPending, IsCut, AllTickets, HandParts, SeatParts, TrapParts, AllParts}
+use Rattle.domore_core.proofs.Guards.{Guard, Holds}
+use Rattle.domore_core.proofs.Seats.{each_set, each_push}
 use Rattle.domore_core.proofs.Tickets.{inside, held, tickets_at, in_rises, not_cut, least_is}
 
 -- a trapped part takes no access more
@@ -62,38 +62,41 @@ module _ {B C P : Type 0} (m : Setup B C P) (nest : Nest) (tree : B → Cut) (s 
 
   quiet_row : (u : ℕ) (move : Move B C P) → u < m.width → HandParts m nest trace (seat_after m s.words (seat u) move).hand → Each (IsUnbegun trace) (seat_after m s.words (seat u) move).queue → (seat_after m s.words (seat u) move).done ≡ (seat u).done → trap_after m s.trap move ≡ s.trap → AllParts m nest tree (worker_after m s u move) trace
   quiet_row u move own hand queue done trap = worker_row u move own
-    (record { finished = λ k mine lt. (i.seats u own).finished k mine (omega arith); hand = hand; queue = queue })
-    (subst (TrapParts family trace) (sym trap) i.trapped)
+      (record { finished = λ k mine lt. (i.seats u own).finished k mine (omega arith); hand = hand; queue = queue })
+      (subst (TrapParts family trace) (sym trap) i.trapped)
 
   finish_row : (u k : ℕ) (piece : P) → Holds m s u k [] piece → m.system.stop piece ≡ Finishes → AllParts m nest tree (worker_after m s u (DoFinish k)) trace
   finish_row u k piece h stop = worker_row u (DoFinish k) h.own (record { finished = finished; hand = tt; queue = (i.seats u h.own).queue }) i.trapped
     where
       mine : (k % m.width ≡ u) × (k < s.next)
       mine = let r = (held m s tickets u k [] piece h.own h.hand).rises in (r.1, r.2)
+
       between : (j : ℕ) → j < k → (done_at s.seats u ≤ j) → Fate (done_at s.seats u) (k ∷ queued_numbers (seat u).queue) s.trap j → ⊥
       between j lt ge (IsDone l) = absurd (omega arith)
       between j lt ge (IsPending among) = let t = (held m s tickets u k [] piece h.own h.hand).rises in let l : k ≤ j = (in_rises m.width u k s.next j (k ∷ queued_numbers (seat u).queue) (omega arith, t.1, t.2, t.3) among).0 in absurd (omega arith)
       between j lt ge (IsCut cut) = not_cut s.trap j k h.below lt cut
+
       finished : (j : ℕ) → j % m.width ≡ u → j < suc k → IsFinished (family j) (part j trace)
       finished j own lt = ⊎_elim
-        (λ l. (i.seats u h.own).finished j own l)
-        (λ ge. ⊎_elim
+          (λ l. (i.seats u h.own).finished j own l)
+          (λ ge. ⊎_elim
           (λ same. subst (λ x. IsFinished (family x) (part x trace)) (sym same) (left_finished m.system (family k) (part k trace) piece (left_at u k [] piece h.own h.hand) stop))
           (λ other. let l : j < k = omega arith in let n : k < s.next = mine.1 in absurd (between j l ge ((held m s tickets u k [] piece h.own h.hand).fate j (omega arith) own)))
           (cases_eq j k))
-        (cases_lt j (done_at s.seats u))
+          (cases_lt j (done_at s.seats u))
 
   trap_row : (u k : ℕ) (piece : P) (cause : Cause) (line : Line) → Holds m s u k [] piece → m.system.stop piece ≡ Traps cause line → AllParts m nest tree (worker_after m s u (DoTrap k cause line)) trace
   trap_row u k piece cause line h stop = worker_row u (DoTrap k cause line) h.own (record { finished = (i.seats u h.own).finished; hand = tt; queue = (i.seats u h.own).queue }) (least s.trap i.trapped)
     where
       new : IsTrapped (family k) (part k trace) cause line
       new = left_trapped m.system (family k) (part k trace) piece cause line (left_at u k [] piece h.own h.hand) stop
+
       least : (trap : Option Place) → TrapParts family trace trap → TrapParts family trace (Some (least_trap trap (place_of_trap cause line k false)))
       least None old = λ worker. new
       least (Some t) old = ⊎_elim
-        (λ is. subst (λ x. TrapParts family trace (Some x)) (sym is.0) (λ worker. new))
-        (λ is. subst (λ x. TrapParts family trace (Some x)) (sym is.0) old)
-        (least_is t (place_of_trap cause line k false))
+          (λ is. subst (λ x. TrapParts family trace (Some x)) (sym is.0) (λ worker. new))
+          (λ is. subst (λ x. TrapParts family trace (Some x)) (sym is.0) old)
+          (least_is t (place_of_trap cause line k false))
 
   -- a row with an access of the held iteration
   module _ (u k : ℕ) (piece next : P) (a : Access) (h : Holds m s u k [] piece) (own_access : iteration a ≡ k) (new : Left m.system (family k) (part k trace ++ a ∷ []) next) where
@@ -117,10 +120,10 @@ module _ {B C P : Type 0} (m : Setup B C P) (nest : Nest) (tree : B → Cut) (s 
 
     other_seat : (v : ℕ) → (v ≡ u → ⊥) → v < m.width → SeatParts m nest tree (trace ++ a ∷ []) v (seat v)
     other_seat v other lt = record {
-        finished = λ j own l. subst (IsFinished (family j)) (sym (others j (elsewhere v j other own))) ((i.seats v lt).finished j own l);
-        hand = other_hand v (seat v).hand other lt refl (i.seats v lt).hand;
-        queue = queue (seat v).hand refl;
-      }
+      finished = λ j own l. subst (IsFinished (family j)) (sym (others j (elsewhere v j other own))) ((i.seats v lt).finished j own l);
+      hand = other_hand v (seat v).hand other lt refl (i.seats v lt).hand;
+      queue = queue (seat v).hand refl;
+    }
       where
         queue : (hand : Hand P) → (seat v).hand ≡ hand → Each (IsUnbegun (trace ++ a ∷ [])) (seat v).queue
         queue Idle is = other_queue (seat v).done v (seat v).queue (λ j le own. elsewhere v j other own) (tickets_at m s tickets v Idle (seat v).queue lt is refl).rises (i.seats v lt).queue
@@ -137,19 +140,19 @@ module _ {B C P : Type 0} (m : Setup B C P) (nest : Nest) (tree : B → Cut) (s 
     still_trapped : (trap : Option Place) → TrapParts family trace trap → TrapParts family (trace ++ a ∷ []) trap
     still_trapped None old = tt
     still_trapped (Some t) old = λ worker. ⊎_elim
-      (λ same. absurd (trapped_stays (family k) (part k trace) a (plain m.system.fixed new.left) t.cause t.line (subst (λ x. IsTrapped (family x) (part x trace) t.cause t.line) same (old worker)) new.makes))
-      (λ other. subst (λ made. IsTrapped (family t.number) made t.cause t.line) (sym (others t.number other)) (old worker))
-      (cases_eq t.number k)
+        (λ same. absurd (trapped_stays (family k) (part k trace) a (plain m.system.fixed new.left) t.cause t.line (subst (λ x. IsTrapped (family x) (part x trace) t.cause t.line) same (old worker)) new.makes))
+        (λ other. subst (λ made. IsTrapped (family t.number) made t.cause t.line) (sym (others t.number other)) (old worker))
+        (cases_eq t.number k)
 
     access_row : (move : Move B C P) → seat_after m s.words (seat u) move ≡ record { hand = Holding k [] next; queue = (seat u).queue; done = (seat u).done } → trap_after m s.trap move ≡ s.trap → AllParts m nest tree (worker_after m s u move) (trace ++ a ∷ [])
     access_row move is trap = record {
       seats = λ v lt. each_set (λ w y. w < m.width → SeatParts m nest tree (trace ++ a ∷ []) w y) s.seats u (seat_after m s.words (seat u) move) (inside m s tickets u h.own)
-        (λ l. subst (SeatParts m nest tree (trace ++ a ∷ []) u) (sym is) own_seat) (λ w other l. other_seat w other l) v lt;
+          (λ l. subst (SeatParts m nest tree (trace ++ a ∷ []) u) (sym is) own_seat) (λ w other l. other_seat w other l) v lt;
       later = λ j ge. let l : k < s.next = mine.1 in others j (λ same. omega arith) ∙ i.later j ge;
       fits = λ j. ⊎_elim
-        (λ same. subst (λ x. Fits (family x) (part x (trace ++ a ∷ []))) (sym same) (subst (Fits (family k)) (sym (part_push_own k trace a own_access)) (plain m.system.fixed new.left, new.makes)))
-        (λ other. subst (Fits (family j)) (sym (others j other)) (i.fits j))
-        (cases_eq j k);
+          (λ same. subst (λ x. Fits (family x) (part x (trace ++ a ∷ []))) (sym same) (subst (Fits (family k)) (sym (part_push_own k trace a own_access)) (plain m.system.fixed new.left, new.makes)))
+          (λ other. subst (Fits (family j)) (sym (others j other)) (i.fits j))
+          (cases_eq j k);
       trapped = subst (TrapParts family (trace ++ a ∷ [])) (sym trap) (still_trapped s.trap i.trapped);
     }
 
@@ -159,11 +162,11 @@ module _ {B C P : Type 0} (m : Setup B C P) (nest : Nest) (tree : B → Cut) (s 
 
   read_row : (u k w : ℕ) (next : ℤ → P) (piece : P) (told : Option ℤ) → Holds m s u k [] piece → m.system.stop piece ≡ Loads w next → m.system.fixed w ≡ told → AllParts m nest tree (worker_after m s u (DoRead k w next)) (trace ++ option_map_or (λ t. []) told (Read k w (word_at s.words w) ∷ []))
   read_row u k w next piece None h stop is = access_row u k piece (next (word_at s.words w)) (Read k w (word_at s.words w)) h refl
-    (left_read m.system (family k) (part k trace) piece w next k (word_at s.words w) (left_at u k [] piece h.own h.hand) stop is).0
-    (DoRead k w next) refl refl
+      (left_read m.system (family k) (part k trace) piece w next k (word_at s.words w) (left_at u k [] piece h.own h.hand) stop is).0
+      (DoRead k w next) refl refl
   read_row u k w next piece (Some value) h stop is = same_trace (worker_after m s u (DoRead k w next)) (quiet_row u (DoRead k w next) h.own
-    (subst (λ x. Left m.system (family k) (part k trace) (next x)) (sym (fixed_words w value is)) (left_told m.system (family k) (part k trace) piece w next value (left_at u k [] piece h.own h.hand) stop is).0)
-    (i.seats u h.own).queue refl refl)
+      (subst (λ x. Left m.system (family k) (part k trace) (next x)) (sym (fixed_words w value is)) (left_told m.system (family k) (part k trace) piece w next value (left_at u k [] piece h.own h.hand) stop is).0)
+      (i.seats u h.own).queue refl refl)
 
   scheduled : TrapParts family trace s.trap → (cause : Cause) (line : Line) → TrapParts family trace (Some (place_of_trap cause line s.next true))
   scheduled old cause line = λ worker. cc
@@ -190,8 +193,8 @@ module _ {B C P : Type 0} (m : Setup B C P) (nest : Nest) (tree : B → Cut) (s 
   parts_row u (DoDispatch b rest) some begins given g = let d = dispatch_row b rest some (given b rest g.0.untrapped g.1) in same_trace _ (record { seats = d.seats; later = d.later; fits = d.fits; trapped = d.trapped })
   parts_row u DoHalt some begins given g = same_trace _ (record { seats = i.seats; later = i.later; fits = i.fits; trapped = i.trapped })
   parts_row u (DoTake ticket queue) some begins given (idle, below) = let q = queue_at u (ticket ∷ queue) idle.own idle.queued in same_trace _ (quiet_row u (DoTake ticket queue) idle.own
-    (subst (λ made. Left m.system (family ticket.number) made (m.entry ticket.body)) (sym q.0.1) (subst (λ x. Left m.system x [] (m.entry ticket.body)) q.0.0 (left_begins P m.system (tree ticket.body) (m.entry ticket.body) (begins ticket.body))))
-    q.1 refl refl)
+      (subst (λ made. Left m.system (family ticket.number) made (m.entry ticket.body)) (sym q.0.1) (subst (λ x. Left m.system x [] (m.entry ticket.body)) q.0.0 (left_begins P m.system (tree ticket.body) (m.entry ticket.body) (begins ticket.body))))
+      q.1 refl refl)
   parts_row u (DoPass k w left piece) some begins given (h, over) = same_trace _ (quiet_row u (DoPass k w left piece) h.own (left_at u k (w ∷ left) piece h.own h.hand) (i.seats u h.own).queue refl refl)
   parts_row u (DoRead k w next) some begins given (piece, h, stop) = read_row u k w next piece (m.system.fixed w) h stop refl
   parts_row u (DoWrite k w value next) some begins given (piece, h, stop) = access_row u k piece next (Write k w value) h refl (left_write m.system (family k) (part k trace) piece w value next k (left_at u k [] piece h.own h.hand) stop).1 (DoWrite k w value next) refl refl

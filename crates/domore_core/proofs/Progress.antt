@@ -1,19 +1,19 @@
 -- In each unfinished state with the invariant some actor has a step.
-use Rattle.std.proofs.Common.{◌≡◌, ℕ, zero, suc, ◌%◌, ◌<◌, ◌≤◌, ◌⊎◌, Bool, true, false, ◌&&◌, if◌then◌else◌, ◌==◌, Option, Some, None, IsSome, List, [], ◌∷◌, ◌++◌, length, nat_lt, refl, sym, ap, ◌∙◌, subst, inl, inr, ⊎_elim, arith}
-use Rattle.std.proofs.lemmas.Bool.{lt-ltb, le-ltb, eq-eqb, ltb-true, ltb-false, and_cases, cases_lt, true≢false}
+use Rattle.std.proofs.Common.{◌≡◌, ℕ, zero, suc, ◌%◌, ◌<◌, ◌≤◌, Bool, true, false, if◌then◌else◌, Option, Some, None, IsSome, List, [], ◌∷◌, ◌++◌, length, nat_lt, refl, sym, ap, ◌∙◌, subst, inl, inr, ⊎_elim, arith}
+use Rattle.std.proofs.lemmas.Bool.{lt-ltb, le-ltb, eq-eqb, ltb-false, and_cases, cases_lt, true≢false}
 use Rattle.std.proofs.lemmas.Nat.{mod_below}
-use Rattle.std.specs.Option.{option_map, is_some}
+use Rattle.std.specs.Option.{option_map}
 use Rattle.std.specs.List.{list_all}
 use Rattle.nest_syntax.specs.declared.place.Place.{Place}
 use Rattle.settle_law.specs.Cuts.{Cut}
 use Rattle.settle_law.specs.Traces.{Access}
 use Rattle.settle_law.specs.Courses.{Nest, Event, End, Scalar, Drain, Iterate, Close}
 use Rattle.domore_core.specs.Waits.{Wait}
-use Rattle.domore_core.specs.Machine.{Setup, State, Seat, Hand, Idle, Holding, Gone, Ticket, Move, DoDrain, DoDispatch, DoDropHeld, DoPass, DoEnd, DoTake, DoDropQueued, seat_at, done_at, is_above, all_finished, is_gone, event_move, going_move, scheduler_move, idle_move, stop_move, waiting_move, held_move, worker_move, move_of, state_after, step, opening}
+use Rattle.domore_core.specs.Machine.{Setup, State, Seat, Hand, Idle, Holding, Gone, Ticket, Move, DoDropHeld, DoEnd, DoTake, DoDropQueued, seat_at, done_at, is_above, all_finished, is_gone, event_move, going_move, scheduler_move, waiting_move, worker_move, move_of, state_after, opening}
 use Rattle.domore_core.specs.Runs.{is_finished, trace_from}
 use Rattle.domore_core.specs.Theorems.{IsSetupFor, CanGoOn, UnfinishedGoOn}
-use Rattle.domore_core.specs.Invariant.{Each, queued_numbers, numbers, held_number, In, IsCutBy, Fate, IsDone, IsPending, IsCut, AllTickets, HandWaits, Invariant}
-use Rattle.domore_core.proofs.Tickets.{inside, numbers_are, tickets_at, held, in_rises, not_cut}
+use Rattle.domore_core.specs.Invariant.{Each, queued_numbers, numbers, held_number, In, IsCutBy, Fate, IsDone, IsPending, IsCut, Invariant}
+use Rattle.domore_core.proofs.Tickets.{numbers_are, held, in_rises, not_cut}
 use Rattle.domore_core.proofs.WaitsLeft.{hand_at}
 use Rattle.domore_core.proofs.Runs.{invariant_holds}
 
@@ -21,17 +21,17 @@ use Rattle.domore_core.proofs.Runs.{invariant_holds}
 unfinished_at : {B P : Type 0} (width n : ℕ) (seats : List (Seat B P)) → all_finished width seats n ≡ false → (k : ℕ) × (k < n) × (done_at seats (k % width) ≤ k)
 unfinished_at width zero seats all = absurd (true≢false all)
 unfinished_at width (suc n) seats all = ⊎_elim
-  (λ no. (n, omega arith, ltb-false _ _ no))
-  (λ others. let k = unfinished_at width n seats others in let l : k.0 < n = k.1 in (k.0, omega arith, k.2))
-  (and_cases (nat_lt n (done_at seats (n % width))) (all_finished width seats n) all)
+    (λ no. (n, omega arith, ltb-false _ _ no))
+    (λ others. let k = unfinished_at width n seats others in let l : k.0 < n = k.1 in (k.0, omega arith, k.2))
+    (and_cases (nat_lt n (done_at seats (n % width))) (all_finished width seats n) all)
 
 -- where not all are gone, one isn't
 present_at : {B P : Type 0} (seats : List (Seat B P)) → list_all (λ (x : Seat B P). is_gone x.hand) seats ≡ false → (u : ℕ) × (u < length seats) × (is_gone (seat_at seats u).hand ≡ false)
 present_at [] all = absurd (true≢false all)
 present_at (x ∷ seats) all = ⊎_elim
-  (λ no. (0, omega arith, no))
-  (λ others. let u = present_at seats others in let l : u.0 < length seats = u.1 in (suc u.0, omega arith, u.2))
-  (and_cases (is_gone x.hand) (list_all (λ (y : Seat _ _). is_gone y.hand) seats) all)
+    (λ no. (0, omega arith, no))
+    (λ others. let u = present_at seats others in let l : u.0 < length seats = u.1 in (suc u.0, omega arith, u.2))
+    (and_cases (is_gone x.hand) (list_all (λ (y : Seat _ _). is_gone y.hand) seats) all)
 
 module _ {B C P : Type 0} (m : Setup B C P) (nest : Nest) (tree : B → Cut) (start : C) (setup : IsSetupFor m nest tree start) (s : State B C P) (trace : List Access) (i : Invariant m nest tree s trace) where
   abbrev pub seat : ℕ → Seat B P
@@ -64,12 +64,14 @@ module _ {B C P : Type 0} (m : Setup B C P) (nest : Nest) (tree : B → Cut) (st
     where
       some_if : (t : Bool) → is_above s.trap k ≡ t → IsSome (if t then Some (DoDropHeld k) else waiting_move m s k left piece) → CanGoOn m s
       some_if t is some = worker_goes u (Holding k left piece) (seat u).queue own h refl (subst (λ b. IsSome (if b then Some (DoDropHeld k) else waiting_move m s k left piece)) (sym is) some)
+
       waiting : (rest : List Wait) → left ≡ rest → is_above s.trap k ≡ false → CanGoOn m s
       waiting [] same below = some_if false below (subst (λ l. IsSome (waiting_move m s k l piece)) (sym same) refl)
       waiting (w ∷ others) same below = ⊎_elim
-        (λ l. some_if false below (subst (λ x. IsSome (waiting_move m s k x piece)) (sym same) (rw (lt-ltb w.number (done_at s.seats w.worker) l) refl)))
-        (λ ge. blocked w others same below ge)
-        (cases_lt w.number (done_at s.seats w.worker))
+          (λ l. some_if false below (subst (λ x. IsSome (waiting_move m s k x piece)) (sym same) (rw (lt-ltb w.number (done_at s.seats w.worker) l) refl)))
+          (λ ge. blocked w others same below ge)
+          (cases_lt w.number (done_at s.seats w.worker))
+
       above : (t : Bool) → is_above s.trap k ≡ t → CanGoOn m s
       above true is = some_if true is refl
       above false is = waiting left refl is
@@ -82,6 +84,7 @@ module _ {B C P : Type 0} (m : Setup B C P) (nest : Nest) (tree : B → Cut) (st
       by_queue : (queue : List (Ticket B)) → (seat u).hand ≡ Idle → (seat u).queue ≡ queue → In k (queued_numbers queue) → CanGoOn m s
       by_queue [] h q among = elim among [ ]
       by_queue (ticket ∷ queue) h q among = idle_goes u ticket queue own h q
+
       waits_for : (h : ℕ) (left : List Wait) (piece : P) → (seat u).hand ≡ Holding h left piece → h ≤ k → ((w v : ℕ) → w < fuel → v < m.width → In w (numbers (seat v)) → CanGoOn m s) → (w : Wait) (others : List Wait) → left ≡ w ∷ others → is_above s.trap h ≡ false → done_at s.seats w.worker ≤ w.number → CanGoOn m s
       waits_for h left piece is le more w others same below ge = go (subst (Each (λ (x : Wait). (x.number < h) × (x.number % m.width ≡ x.worker))) same (hand_at m s i.tickets i.waits_left u (Holding h left piece) own is).1).0
         where
@@ -90,12 +93,15 @@ module _ {B C P : Type 0} (m : Setup B C P) (nest : Nest) (tree : B → Cut) (st
             where
               inside_too : w.worker < m.width
               inside_too = subst (λ x. x < m.width) on (mod_below w.number m.width setup.some_worker)
+
               handed : w.number < s.next
               handed = let n : h < s.next = (held m s i.tickets u h left piece own is).rises.2 in omega arith
+
               fate : Fate (done_at s.seats w.worker) (numbers (seat w.worker)) s.trap w.number → CanGoOn m s
               fate (IsDone l) = absurd (omega arith)
               fate (IsPending mine) = more w.number w.worker (omega arith) inside_too mine
               fate (IsCut cut) = absurd (not_cut s.trap w.number h below lower cut)
+
       by_hand : (hand : Hand P) → (seat u).hand ≡ hand → ((w v : ℕ) → w < fuel → v < m.width → In w (numbers (seat v)) → CanGoOn m s) → CanGoOn m s
       by_hand Idle is more = by_queue (seat u).queue is refl (subst (In k) (numbers_are m s i.tickets u Idle (seat u).queue is refl) among)
       by_hand (Holding h left piece) is more = held_goes u h left piece own is (waits_for h left piece is (le (subst (In k) (numbers_are m s i.tickets u (Holding h left piece) (seat u).queue is refl) among)) more)
@@ -110,6 +116,7 @@ module _ {B C P : Type 0} (m : Setup B C P) (nest : Nest) (tree : B → Cut) (st
     where
       own : k % m.width < m.width
       own = mod_below k m.width setup.some_worker
+
       go : Fate (done_at s.seats (k % m.width)) (numbers (seat (k % m.width))) s.trap k → CanGoOn m s
       go (IsDone l) = absurd (omega arith)
       go (IsPending mine) = pending_can (suc k) k (k % m.width) (omega arith) own mine
@@ -134,15 +141,16 @@ module _ {B C P : Type 0} (m : Setup B C P) (nest : Nest) (tree : B → Cut) (st
       by_test true is = go (rw is refl)
       by_test false is = let k = unfinished_at m.width s.next s.seats is in unfinished_goes none k.0 k.1 k.2
   event_goes (Iterate b rest) go none = ⊎_elim
-    (λ room. go (rw (lt-ltb (length (seat (s.next % m.width)).queue) m.room room) refl))
-    (λ full. queued_goes (s.next % m.width) (seat (s.next % m.width)).queue (mod_below s.next m.width setup.some_worker) refl (let r : 0 < m.room = setup.some_room in omega arith))
-    (cases_lt (length (seat (s.next % m.width)).queue) m.room)
+      (λ room. go (rw (lt-ltb (length (seat (s.next % m.width)).queue) m.room room) refl))
+      (λ full. queued_goes (s.next % m.width) (seat (s.next % m.width)).queue (mod_below s.next m.width setup.some_worker) refl (let r : 0 < m.room = setup.some_room in omega arith))
+      (cases_lt (length (seat (s.next % m.width)).queue) m.room)
 
   scheduler_can : s.halted ≡ false → CanGoOn m s
   scheduler_can on = go s.trap refl
     where
       enabled : IsSome (going_move m s s.trap) → CanGoOn m s
       enabled some = scheduler_goes (subst (λ b. IsSome (if b then None else going_move m s s.trap)) (sym on) some)
+
       go : (trap : Option Place) → s.trap ≡ trap → CanGoOn m s
       go None is = event_goes (m.event s.cursor) (λ some. enabled (subst (λ t. IsSome (going_move m s t)) (sym is) some)) is
       go (Some t) is = enabled (subst (λ x. IsSome (going_move m s x)) (sym is) refl)
@@ -153,6 +161,7 @@ module _ {B C P : Type 0} (m : Setup B C P) (nest : Nest) (tree : B → Cut) (st
       by_queue : (queue : List (Ticket B)) → (seat u).hand ≡ Idle → (seat u).queue ≡ queue → CanGoOn m s
       by_queue [] h q = worker_goes u Idle [] own h q (subst (λ b. IsSome {T = Move B C P} (if b then Some DoEnd else None)) (sym over) refl)
       by_queue (ticket ∷ queue) h q = idle_goes u ticket queue own h q
+
       by_hand : (hand : Hand P) → (seat u).hand ≡ hand → CanGoOn m s
       by_hand Idle h = by_queue (seat u).queue h refl
       by_hand (Holding k left piece) h = pending_can (suc k) k u (omega arith) own (subst (In k) (sym (numbers_are m s i.tickets u (Holding k left piece) (seat u).queue h refl)) (inl refl))
@@ -164,9 +173,9 @@ module _ {B C P : Type 0} (m : Setup B C P) (nest : Nest) (tree : B → Cut) (st
       go : (t : Bool) → s.halted ≡ t → CanGoOn m s
       go false on = scheduler_can on
       go true over = ⊎_elim
-        (λ on. absurd (true≢false (sym over ∙ on)))
-        (λ some. let u = present_at s.seats some in let l : u.0 < length s.seats = u.1 in worker_can over u.0 (omega (arith, i.tickets.width)) u.2)
-        (and_cases s.halted (list_all (λ (x : Seat B P). is_gone x.hand) s.seats) unfinished)
+          (λ on. absurd (true≢false (sym over ∙ on)))
+          (λ some. let u = present_at s.seats some in let l : u.0 < length s.seats = u.1 in worker_can over u.0 (omega (arith, i.tickets.width)) u.2)
+          (and_cases s.halted (list_all (λ (x : Seat B P). is_gone x.hand) s.seats) unfinished)
 
 pub goes_on : (B C P : Type 0) → UnfinishedGoOn B C P
 goes_on B C P m nest tree start setup history s leads unfinished = can_go_on m nest tree start setup s (trace_from m (opening m start nest.opening) history) (invariant_holds m nest tree start setup history s leads) unfinished

@@ -1,18 +1,16 @@
 -- The invariant, over all histories, and what it gives.
-use Rattle.std.proofs.Common.{◌≡◌, ℕ, zero, suc, ◌<◌, ◌≤◌, ℤ, Bool, true, false, Option, Some, None, List, [], ◌∷◌, ◌++◌, length, replicate, refl, sym, ap, ◌∙◌, subst, arith, append-nil}
+use Rattle.std.proofs.Common.{◌≡◌, ℕ, ◌<◌, Option, Some, None, List, [], ◌∷◌, ◌++◌, replicate, refl, sym, ap, ◌∙◌, subst, arith, append-nil}
 use Rattle.std.proofs.lemmas.List.{append_assoc, get_or-replicate, length-replicate}
 use Rattle.std.proofs.lemmas.Bool.{true≢false}
-use Rattle.std.specs.Option.{option_map, option_map_or, option_and_then}
-use Rattle.nest_syntax.specs.Outcome.{Done}
+use Rattle.std.specs.Option.{option_map_or, option_and_then}
 use Rattle.settle_law.specs.Cuts.{Cut}
 use Rattle.settle_law.specs.Traces.{Access}
-use Rattle.settle_law.specs.Courses.{Nest, family_of, outcome}
+use Rattle.settle_law.specs.Courses.{Nest, family_of}
 use Rattle.settle_law.proofs.Cursors.{begins}
-use Rattle.domore_core.specs.Facts.{facts_of}
-use Rattle.domore_core.specs.Machine.{Setup, State, Seat, Idle, Gone, Move, opening_seat, seat_at, opening, step, move_of, state_after, accesses_of, waits}
-use Rattle.domore_core.specs.Runs.{run, made_by, trace_from, is_finished, ending_of}
-use Rattle.domore_core.specs.Theorems.{IsSetupFor, Leads, KeepsOrder, HistoriesKeepOrder, HistoriesEndAsNest, FactsAreOfNest}
-use Rattle.domore_core.specs.Invariant.{AllTickets, Tickets, SeatWaits, SeatParts, Invariant, numbers}
+use Rattle.domore_core.specs.Machine.{Setup, State, Seat, Idle, Gone, Move, opening_seat, seat_at, opening, step, state_after, accesses_of}
+use Rattle.domore_core.specs.Runs.{run, made_by, trace_from}
+use Rattle.domore_core.specs.Theorems.{IsSetupFor, Leads, HistoriesKeepOrder, HistoriesEndAsNest, FactsAreOfNest}
+use Rattle.domore_core.specs.Invariant.{Tickets, SeatWaits, SeatParts, Invariant, numbers}
 use Rattle.domore_core.proofs.Guards.{Guard, IsStep, step_is}
 use Rattle.domore_core.proofs.Tickets.{tickets_row}
 use Rattle.domore_core.proofs.WaitsLeft.{waits_row}
@@ -39,7 +37,7 @@ module _ {B C P : Type 0} (m : Setup B C P) (nest : Nest) (tree : B → Cut) (st
     where
       go : IsStep m s u t → Invariant m nest tree t (trace ++ made_by m s u)
       go is = subst (λ x. Invariant m nest tree x (trace ++ made_by m s u)) (sym is.behind)
-        (subst (λ o. Invariant m nest tree (state_after m s u is.move) (trace ++ option_map_or (accesses_of m s.words) o [])) (sym is.enabled)
+          (subst (λ o. Invariant m nest tree (state_after m s u is.move) (trace ++ option_map_or (accesses_of m s.words) o [])) (sym is.enabled)
           (invariant_row s trace u is.move is.guard i))
 
   -- the opening

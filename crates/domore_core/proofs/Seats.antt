@@ -1,16 +1,14 @@
 -- Seats by their workers, and lists of what holds of each element.
-use Rattle.std.proofs.Common.{◌≡◌, ℕ, zero, suc, ◌<◌, ◌≤◌, ◌⊎◌, List, [], ◌∷◌, ◌++◌, length, slice_index_or, slice_set, refl, sym, ap, ◌∙◌, subst, inl, inr, ⊎_elim, arith}
+use Rattle.std.proofs.Common.{◌≡◌, ℕ, ◌<◌, ◌≤◌, List, [], ◌∷◌, ◌++◌, length, slice_set, sym, ap, subst, ⊎_elim, arith}
 use Rattle.std.proofs.lemmas.List.{get_or-set_same, get_or-set_other}
 use Rattle.std.proofs.lemmas.Bool.{cases_eq}
-use Rattle.domore_core.specs.Machine.{Seat, seat_at, done_at}
+use Rattle.settle_law.proofs.Seats.{each_set as put_each}
+use Rattle.domore_core.specs.Machine.{Seat, seat_at, done_at, gone_seat}
 use Rattle.domore_core.specs.Invariant.{Each}
 
 -- one seat is replaced: what holds of the new one and of all others holds of each
 pub each_set : {B P : Type 0} (Q : ℕ → Seat B P → Type 0) (seats : List (Seat B P)) (u : ℕ) (x : Seat B P) → u < length seats → Q u x → ((v : ℕ) → (v ≡ u → ⊥) → Q v (seat_at seats v)) → (v : ℕ) → Q v (seat_at (slice_set seats u x) v)
-each_set Q seats u x inside own others v = ⊎_elim
-    (λ same. subst (λ w. Q w (seat_at (slice_set seats u x) w)) (sym same) (subst (Q u) (sym (get_or-set_same seats u x _ inside)) own))
-    (λ other. subst (Q v) (sym (get_or-set_other seats u v x _ other)) (others v other))
-    (cases_eq v u)
+each_set Q seats u x inside own others v = put_each Q seats u x gone_seat inside own others v
 
 pub seat_same : {B P : Type 0} (seats : List (Seat B P)) (u : ℕ) (x : Seat B P) → u < length seats → seat_at (slice_set seats u x) u ≡ x
 seat_same seats u x inside = get_or-set_same seats u x _ inside

@@ -1,15 +1,15 @@
 -- The numbers of a seat, and what became of the iterations that were handed out: each row keeps this.
-use Rattle.std.proofs.Common.{◌≡◌, ℕ, zero, suc, ◌%◌, ◌<◌, ◌≤◌, ◌⊎◌, Bool, true, false, if◌then◌else◌, Option, Some, None, List, [], ◌∷◌, ◌++◌, length, slice_set, nat_lt, refl, sym, ap, ◌∙◌, subst, inl, inr, ⊎_elim, arith, length-set}
-use Rattle.std.proofs.lemmas.Bool.{ltb-true, ltb-false, cases_eq, cases_lt, cases_Bool}
+use Rattle.std.proofs.Common.{◌≡◌, ℕ, suc, ◌%◌, ◌<◌, ◌≤◌, ◌⊎◌, Bool, true, false, if◌then◌else◌, Option, Some, None, List, [], ◌∷◌, ◌++◌, length, nat_lt, refl, sym, ap, ◌∙◌, subst, inl, inr, ⊎_elim, arith, length-set}
+use Rattle.std.proofs.lemmas.Bool.{ltb-true, ltb-false, cases_lt}
 use Rattle.std.proofs.lemmas.List.{append_assoc}
 use Rattle.std.proofs.lemmas.Nat.{mod_below}
 use Rattle.nest_syntax.specs.declared.place.Place.{Place}
 use Rattle.nest_syntax.specs.Outcome.{place_of_trap}
 use Rattle.domore_core.specs.Waits.{Wait}
-use Rattle.domore_core.specs.Machine.{Setup, State, Seat, Hand, Idle, Holding, Gone, Ticket, Move, DoScalar, DoClose, DoDrain, DoDispatch, DoHalt, DoTake, DoPass, DoRead, DoWrite, DoGo, DoFinish, DoTrap, DoDropHeld, DoDropQueued, DoEnd, seat_at, done_at, is_above, least_trap, seat_after, trap_after, worker_after, state_after, scalar_after, seat_with, ticket_of}
+use Rattle.domore_core.specs.Machine.{Setup, State, Seat, Hand, Idle, Holding, Ticket, Move, DoScalar, DoClose, DoDrain, DoDispatch, DoHalt, DoTake, DoPass, DoRead, DoWrite, DoGo, DoFinish, DoTrap, DoDropHeld, DoDropQueued, DoEnd, seat_at, done_at, is_above, least_trap, seat_after, trap_after, worker_after, state_after, scalar_after, seat_with, ticket_of}
 use Rattle.settle_law.specs.Courses.{Trap}
 use Rattle.domore_core.specs.Invariant.{held_number, queued_numbers, numbers, In, Rises, IsCutBy, Fate, IsDone, IsPending, IsCut, Tickets, IsBelow, AllTickets}
-use Rattle.domore_core.proofs.Guards.{Guard, Holds, IsIdle, IsFree}
+use Rattle.domore_core.proofs.Guards.{Guard}
 use Rattle.domore_core.proofs.Seats.{each_set}
 
 -- lists of numbers that rise
@@ -90,10 +90,10 @@ module _ (width next : ℕ) (trap after : Option Place) (u done : ℕ) where
   -- the first number is cut off
   pub cut_first : (n : ℕ) (ns : List ℕ) → ((j : ℕ) → IsCutBy trap j → IsCutBy after j) → IsCutBy after n → Tickets width next trap u done (n ∷ ns) → Tickets width next after u done ns
   cut_first n ns keeps cut t = record {
-      rises = let l : done ≤ n = t.rises.0 in rises_from width u (suc n) done next ns (omega arith) t.rises.3;
-      fate = λ k lt own. go k (t.fate k lt own);
-      bounded = t.bounded;
-    }
+    rises = let l : done ≤ n = t.rises.0 in rises_from width u (suc n) done next ns (omega arith) t.rises.3;
+    fate = λ k lt own. go k (t.fate k lt own);
+    bounded = t.bounded;
+  }
     where
       go : (k : ℕ) → Fate done (n ∷ ns) trap k → Fate done ns after k
       go k (IsDone l) = IsDone l
@@ -104,10 +104,10 @@ module _ (width next : ℕ) (trap after : Option Place) (u done : ℕ) where
   -- the first number is finished
   pub finish_first : (n : ℕ) (ns : List ℕ) → Tickets width next trap u done (n ∷ ns) → Tickets width next trap u (suc n) ns
   finish_first n ns t = record {
-      rises = t.rises.3;
-      fate = λ k lt own. go k (t.fate k lt own);
-      bounded = let l : n < next = t.rises.2 in omega arith;
-    }
+    rises = t.rises.3;
+    fate = λ k lt own. go k (t.fate k lt own);
+    bounded = let l : n < next = t.rises.2 in omega arith;
+  }
     where
       go : (k : ℕ) → Fate done (n ∷ ns) trap k → Fate (suc n) ns trap k
       go k (IsDone l) = let d : done ≤ n = t.rises.0 in IsDone (omega arith)
@@ -118,10 +118,10 @@ module _ (width next : ℕ) (trap after : Option Place) (u done : ℕ) where
   -- a ticket is put, here or at another worker
   pub put_own : (ns : List ℕ) → next % width ≡ u → Tickets width next trap u done ns → Tickets width (suc next) trap u done (ns ++ next ∷ [])
   put_own ns own t = record {
-      rises = rises_push width u done next ns t.bounded own t.rises;
-      fate = λ k lt mine. ⊎_elim (λ l. go k (t.fate k l mine)) (λ ge. let same : next ≡ k = omega arith in IsPending (subst (λ x. In x (ns ++ next ∷ [])) same (in_last ns next))) (cases_lt k next);
-      bounded = let l : done ≤ next = t.bounded in omega arith;
-    }
+    rises = rises_push width u done next ns t.bounded own t.rises;
+    fate = λ k lt mine. ⊎_elim (λ l. go k (t.fate k l mine)) (λ ge. let same : next ≡ k = omega arith in IsPending (subst (λ x. In x (ns ++ next ∷ [])) same (in_last ns next))) (cases_lt k next);
+    bounded = let l : done ≤ next = t.bounded in omega arith;
+  }
     where
       go : (k : ℕ) → Fate done ns trap k → Fate done (ns ++ next ∷ []) trap k
       go k (IsDone l) = IsDone l
@@ -174,14 +174,15 @@ module _ {B C P : Type 0} (m : Setup B C P) (s : State B C P) (i : AllTickets m 
 
   dispatch_row : (b : B) (rest : C) → 0 < m.width → AllTickets m (state_after m s m.width (DoDispatch b rest))
   dispatch_row b rest some = record {
-      width = length-set s.seats _ _ ∙ i.width;
-      seats = λ v lt. each_set (λ w x. w < m.width → Tickets m.width (suc s.next) s.trap w x.done (numbers x)) s.seats (s.next % m.width) (seat_with (seat (s.next % m.width)) (ticket_of m s b)) (inside (s.next % m.width) (mod_below s.next m.width some)) own (λ w other lt. put_other m.width s.next s.trap s.trap w (done_at s.seats w) (numbers (seat w)) (λ same. other (sym same)) (i.seats w lt)) v lt;
-      trap = more s.trap i.trap;
-    }
+    width = length-set s.seats _ _ ∙ i.width;
+    seats = λ v lt. each_set (λ w x. w < m.width → Tickets m.width (suc s.next) s.trap w x.done (numbers x)) s.seats (s.next % m.width) (seat_with (seat (s.next % m.width)) (ticket_of m s b)) (inside (s.next % m.width) (mod_below s.next m.width some)) own (λ w other lt. put_other m.width s.next s.trap s.trap w (done_at s.seats w) (numbers (seat w)) (λ same. other (sym same)) (i.seats w lt)) v lt;
+    trap = more s.trap i.trap;
+  }
     where
       more : (trap : Option Place) → IsBelow trap s.next → IsBelow trap (suc s.next)
       more None below = tt
       more (Some t) below = let l : t.number ≤ s.next = below in omega arith
+
       own : (s.next % m.width) < m.width → Tickets m.width (suc s.next) s.trap (s.next % m.width) (done_at s.seats (s.next % m.width)) (numbers (seat_with (seat (s.next % m.width)) (ticket_of m s b)))
       own lt = subst (Tickets m.width (suc s.next) s.trap (s.next % m.width) (done_at s.seats (s.next % m.width)))
           (append_assoc (held_number (seat (s.next % m.width)).hand) (queued_numbers (seat (s.next % m.width)).queue) (s.next ∷ []) ∙ ap (λ x. held_number (seat (s.next % m.width)).hand ++ x) (sym (queued_push (seat (s.next % m.width)).queue (ticket_of m s b))))
@@ -212,9 +213,9 @@ module _ {B C P : Type 0} (m : Setup B C P) (s : State B C P) (i : AllTickets m 
       let old : Tickets m.width s.next s.trap u (seat u).done (k ∷ queued_numbers (seat u).queue) = held u k [] piece h.own h.hand in
       let lt : k < s.next = old.rises.2 in
       worker_row u (DoTrap k cause line) h.own (λ j c. least_keeps s.trap (place_of_trap cause line k false) j c) (least_below s.trap (place_of_trap cause line k false) s.next i.trap (omega arith))
-        (cut_first m.width s.next s.trap (trap_after m s.trap (DoTrap k cause line)) u (seat u).done k (queued_numbers (seat u).queue) (λ j c. least_keeps s.trap (place_of_trap cause line k false) j c) (least_cuts s.trap (place_of_trap cause line k false)) old)
+      (cut_first m.width s.next s.trap (trap_after m s.trap (DoTrap k cause line)) u (seat u).done k (queued_numbers (seat u).queue) (λ j c. least_keeps s.trap (place_of_trap cause line k false) j c) (least_cuts s.trap (place_of_trap cause line k false)) old)
   tickets_row u (DoDropHeld k) some (left, piece, own, h, above) = quiet_row u (DoDropHeld k) own refl (cut_first m.width s.next s.trap s.trap u (seat u).done k (queued_numbers (seat u).queue) (λ j c. c) (above_cut s.trap k above) (held u k left piece own h))
   tickets_row u (DoDropQueued ticket queue) some (idle, above) = quiet_row u (DoDropQueued ticket queue) idle.own refl
       (subst (λ h. Tickets m.width s.next s.trap u (seat u).done (held_number h ++ queued_numbers queue)) (sym idle.hand)
-        (cut_first m.width s.next s.trap s.trap u (seat u).done ticket.number (queued_numbers queue) (λ j c. c) (above_cut s.trap ticket.number above) (tickets_at u Idle (ticket ∷ queue) idle.own idle.hand idle.queued)))
+      (cut_first m.width s.next s.trap s.trap u (seat u).done ticket.number (queued_numbers queue) (λ j c. c) (above_cut s.trap ticket.number above) (tickets_at u Idle (ticket ∷ queue) idle.own idle.hand idle.queued)))
   tickets_row u DoEnd some (idle, over) = quiet_row u DoEnd idle.own refl (tickets_at u Idle (seat u).queue idle.own idle.hand refl)

@@ -1,13 +1,12 @@
 -- The waits that are left: each row keeps that they cover what isn't done, so who makes an access has every lower
 -- iteration finished whose claims clash with its own.
-use Rattle.std.proofs.Common.{◌≡◌, ℕ, zero, suc, ◌%◌, ◌<◌, ◌≤◌, ◌⊎◌, Bool, true, false, Option, Some, None, List, [], ◌∷◌, ◌++◌, length, slice_set, refl, sym, ap, ◌∙◌, subst, inl, inr, ⊎_elim, arith}
+use Rattle.std.proofs.Common.{◌≡◌, ℕ, ◌%◌, ◌<◌, ◌≤◌, ◌⊎◌, Bool, true, Some, None, List, [], ◌∷◌, slice_set, refl, sym, ◌∙◌, subst, inl, inr, ⊎_elim, arith}
 use Rattle.std.proofs.lemmas.Bool.{cases_eq}
 use Rattle.std.proofs.lemmas.Nat.{mod_below}
-use Rattle.settle_law.specs.Courses.{Trap}
-use Rattle.domore_core.specs.Waits.{Wait, waits_of}
-use Rattle.domore_core.specs.Machine.{Setup, State, Seat, Hand, Idle, Holding, Gone, Ticket, Move, DoScalar, DoClose, DoDrain, DoDispatch, DoHalt, DoTake, DoPass, DoRead, DoWrite, DoGo, DoFinish, DoTrap, DoDropHeld, DoDropQueued, DoEnd, seat_at, done_at, seat_after, worker_after, state_after, scalar_after, seat_with, ticket_of, waits}
-use Rattle.domore_core.specs.Invariant.{Each, queued_numbers, In, Fate, IsDone, IsPending, IsCut, AllTickets, Covers, Cleared, IsWaitOf, HandWaits, SeatWaits, AllWaits}
-use Rattle.domore_core.proofs.Guards.{Guard, Holds, IsIdle, IsFree}
+use Rattle.domore_core.specs.Waits.{Wait}
+use Rattle.domore_core.specs.Machine.{Setup, State, Seat, Hand, Idle, Holding, Gone, Ticket, Move, DoScalar, DoClose, DoDrain, DoDispatch, DoHalt, DoTake, DoPass, DoRead, DoWrite, DoGo, DoFinish, DoTrap, DoDropHeld, DoDropQueued, DoEnd, seat_at, done_at, seat_after, worker_after, state_after, seat_with, ticket_of, waits}
+use Rattle.domore_core.specs.Invariant.{Each, queued_numbers, Fate, IsDone, IsPending, IsCut, AllTickets, Covers, Cleared, IsWaitOf, HandWaits, SeatWaits, AllWaits}
+use Rattle.domore_core.proofs.Guards.{Guard, Holds}
 use Rattle.domore_core.proofs.Seats.{each_set, each_push, done_grows}
 use Rattle.domore_core.proofs.Tickets.{inside, held, in_rises, not_cut}
 use Rattle.domore_core.proofs.Need.{waits_are, waits_cover}
@@ -50,12 +49,15 @@ module _ {B C P : Type 0} (m : Setup B C P) (s : State B C P) (tickets : AllTick
     where
       mine : (k % m.width ≡ u) × (k < s.next)
       mine = let r = (held m s tickets u k [] piece h.own h.hand).rises in (r.1, r.2)
+
       go : j % m.width ≡ u → Fate (done_at s.seats u) (k ∷ queued_numbers (seat u).queue) s.trap j → j < done_at s.seats (j % m.width)
       go same (IsDone is) = subst (λ x. j < done_at s.seats x) (sym same) is
       go same (IsPending among) = let r = in_rises m.width u k s.next j (k ∷ queued_numbers (seat u).queue) (let t = (held m s tickets u k [] piece h.own h.hand).rises in (omega arith, t.1, t.2, t.3)) among in let l : k ≤ j = r.0 in absurd (omega arith)
       go same (IsCut cut) = absurd (not_cut s.trap j k h.below lt cut)
+
       own : j % m.width ≡ k % m.width → j < done_at s.seats (j % m.width)
       own same = let l : k < s.next = mine.1 in go (same ∙ mine.0) ((held m s tickets u k [] piece h.own h.hand).fate j (omega arith) (same ∙ mine.0))
+
       other : (j % m.width ≡ k % m.width → ⊥) → j < done_at s.seats (j % m.width)
       other differs = ⊎_elim (λ is. is) (λ none. elim none [ ]) ((hand_at u (Holding k [] piece) h.own h.hand).0 j lt clash differs)
 
@@ -80,7 +82,8 @@ module _ {B C P : Type 0} (m : Setup B C P) (s : State B C P) (tickets : AllTick
   taken : (u : ℕ) (ticket : Ticket B) (queue : List (Ticket B)) (piece : P) → 0 < m.width → ticket.waits ≡ waits m ticket.number → HandWaits m.width m.clashes s.seats (Holding ticket.number ticket.waits piece)
   taken u ticket queue piece some is = (
     λ j lt clash other. inr (subst (λ w. Covers m.width w j) (sym is) (waits_cover m.clashes m.width ticket.number j some lt clash other)),
-    subst (Each (IsWaitOf m.width ticket.number)) (sym is) (waits_are m.clashes m.width ticket.number))
+    subst (Each (IsWaitOf m.width ticket.number)) (sym is) (waits_are m.clashes m.width ticket.number),
+  )
 
   -- each row keeps the waits
   pub waits_row : (u : ℕ) (move : Move B C P) → 0 < m.width → Guard m s u move → AllWaits m (state_after m s u move)

@@ -1,7 +1,7 @@
 -- What the report counts. Each event adds to it; `waits` gives the waits of an iteration by its number.
-use Rattle.std.specs.Prelude.{ℕ, suc, ◌+◌, ℤ, Bool, List, [], ◌∷◌, ◌++◌, map, take, fold, length, count_by, nat_lt}
+use Rattle.std.specs.Prelude.{◌≡◌, ℕ, suc, ◌+◌, Bool, true, false, List, [], ◌∷◌, ◌++◌, map, take, length, count_by, nat_lt}
 use Rattle.nest_syntax.specs.Course.{Purpose, Ordinary, Header}
-use Rattle.nest_syntax.specs.Outcome.{Event, Computes, Drains, Iterates, Closes, Ends}
+use Rattle.nest_syntax.specs.Outcome.{Event, Computes, Drains, Iterates, Closes, Ends, iterations_among}
 use Rattle.settle_law.specs.Courses.{Nest, events}
 use Rattle.domore_core.specs.Waits.{Wait}
 
@@ -34,13 +34,13 @@ computed Header facts = record facts { invocations = suc facts.invocations; firs
 abbrev pub drained : Facts → Facts
 drained facts = record facts { drains = suc facts.drains }
 
--- a wait of the next iteration
-abbrev pub listed_as : Facts → Wait → Listed
-listed_as facts w = record { number = facts.iterations; on = w.number; crossing = nat_lt w.number facts.first }
+-- a wait of iteration k, where the first iteration of its invocation is `first`
+abbrev pub listed_at : ℕ → ℕ → Wait → Listed
+listed_at k first w = record { number = k; on = w.number; crossing = nat_lt w.number first }
 
--- an iteration with these waits
+-- the next iteration, with these waits
 abbrev pub iterated : List Wait → Facts → Facts
-iterated waits facts = let new = map (listed_as facts) waits in record facts {
+iterated waits facts = let new = map (listed_at facts.iterations facts.first) waits in record facts {
   iterations = suc facts.iterations;
   waits = facts.waits + length waits;
   crossing = facts.crossing + count_by (λ (l : Listed). l.crossing) new;
@@ -63,3 +63,49 @@ facts_from waits facts (event ∷ others) = facts_from waits (counted waits fact
 -- the facts of a nest that doesn't trap: those of all its events
 abbrev pub facts_of : (ℕ → List Wait) → Nest → Facts
 facts_of waits nest = facts_from waits no_facts (events nest)
+
+-- whether an event is the header of an invocation, and whether it is a drain
+abbrev pub begins : Purpose → Bool
+begins Ordinary = false
+begins Header = true
+
+abbrev pub is_header : Event → Bool
+is_header (Computes purpose) = begins purpose
+is_header (Drains purpose) = begins purpose
+is_header (Iterates body scalars) = false
+is_header Closes = false
+is_header Ends = false
+
+abbrev pub is_drain : Event → Bool
+is_drain (Drains purpose) = true
+is_drain (Computes purpose) = false
+is_drain (Iterates body scalars) = false
+is_drain Closes = false
+is_drain Ends = false
+
+-- the first iteration of the present invocation, behind an event before iteration k
+abbrev pub first_behind : Purpose → ℕ → ℕ → ℕ
+first_behind Ordinary k first = first
+first_behind Header k first = k
+
+-- all waits of the iterations among events, in order, from iteration k on
+abbrev pub listed_from : (ℕ → List Wait) → ℕ → ℕ → List Event → List Listed
+listed_from waits k first [] = []
+listed_from waits k first (Computes purpose ∷ others) = listed_from waits k (first_behind purpose k first) others
+listed_from waits k first (Drains purpose ∷ others) = listed_from waits k (first_behind purpose k first) others
+listed_from waits k first (Iterates body scalars ∷ others) = map (listed_at k first) (waits k) ++ listed_from waits (suc k) first others
+listed_from waits k first (Closes ∷ others) = listed_from waits k first others
+listed_from waits k first (Ends ∷ others) = listed_from waits k first others
+
+-- what facts are of a whole list of events
+pub record AreOf (waits_at : ℕ → List Wait) (passed : List Event) (facts : Facts) : Type 0 where
+  pub invocations : facts.invocations ≡ count_by is_header passed
+  pub iterations : facts.iterations ≡ length (iterations_among passed)
+  pub drains : facts.drains ≡ count_by is_drain passed
+  pub waits : facts.waits ≡ length (listed_from waits_at 0 0 passed)
+  pub crossing : facts.crossing ≡ count_by (λ (l : Listed). l.crossing) (listed_from waits_at 0 0 passed)
+  pub listed : facts.listed ≡ take 64 (listed_from waits_at 0 0 passed)
+
+-- The facts of a list of events are counts of it, and the first 64 of all waits.
+abbrev pub FactsCount : Type 0
+FactsCount = (waits : ℕ → List Wait) (passed : List Event) → AreOf waits passed (facts_from waits no_facts passed)

@@ -1,5 +1,6 @@
 -- What holds of every state that a legal history leaves, with the trace of the history.
-use Rattle.std.specs.Prelude.{◌≡◌, ℕ, suc, ◌%◌, ◌<◌, ◌≤◌, ◌⊎◌, ℤ, Bool, true, false, Option, Some, None, IsSome, List, [], ◌∷◌, ◌++◌, map, length}
+use Rattle.std.specs.Prelude.{◌≡◌, ℕ, suc, ◌%◌, ◌<◌, ◌≤◌, ◌⊎◌, ℤ, Bool, true, false, ◌&&◌, Option, Some, None, IsSome, List, [], ◌∷◌, ◌++◌, length}
+use Rattle.std.specs.List.{list_all}
 use Rattle.nest_syntax.specs.declared.place.Place.{Place}
 use Rattle.nest_syntax.specs.Outcome.{TrappedAt, Event as Passed}
 use Rattle.settle_law.specs.Trees.{Tree}
@@ -10,7 +11,9 @@ use Rattle.settle_law.specs.Tasks.{Left}
 use Rattle.settle_law.specs.Courses.{Nest, Behind, End, family_of, iteration_at, reached, outcome}
 use Rattle.domore_core.specs.Waits.{Wait}
 use Rattle.domore_core.specs.Facts.{no_facts, facts_from}
-use Rattle.domore_core.specs.Machine.{Setup, State, Seat, Hand, Idle, Holding, Gone, Ticket, seat_at, done_at, waits}
+use Rattle.domore_core.specs.Machine.{Setup, State, Seat, Hand, Idle, Holding, Gone, Ticket, seat_at, done_at, all_finished, waits, opening}
+use Rattle.domore_core.specs.Runs.{trace_from}
+use Rattle.domore_core.specs.Theorems.{IsSetupFor, Leads}
 
 abbrev pub Each : {A : Type 0} → (A → Type 0) → List A → Type 0
 Each P [] = Unit {0}
@@ -28,6 +31,19 @@ queued_numbers (ticket ∷ queue) = ticket.number ∷ queued_numbers queue
 
 abbrev pub numbers : {B P : Type 0} → Seat B P → List ℕ
 numbers seat = held_number seat.hand ++ queued_numbers seat.queue
+
+-- whether a seat has no number
+abbrev pub holds_none : {P : Type 0} → Hand P → Bool
+holds_none Idle = true
+holds_none (Holding k left piece) = false
+holds_none Gone = true
+
+abbrev pub has_no_ticket : {B : Type 0} → List (Ticket B) → Bool
+has_no_ticket [] = true
+has_no_ticket (ticket ∷ queue) = false
+
+abbrev pub is_free : {B P : Type 0} → Seat B P → Bool
+is_free seat = holds_none seat.hand && has_no_ticket seat.queue
 
 abbrev pub In : ℕ → List ℕ → Type 0
 In k [] = ⊥
@@ -64,6 +80,10 @@ pub record AllTickets {B C P : Type 0} (m : Setup B C P) (s : State B C P) : Typ
   pub width : length s.seats ≡ m.width
   pub seats : (u : ℕ) → u < m.width → Tickets m.width s.next s.trap u (done_at s.seats u) (numbers (seat_at s.seats u))
   pub trap : IsBelow s.trap s.next
+
+-- Without a kept trap, all iterations that were handed out are finished exactly where every seat is free.
+abbrev pub FinishedWhereFree : Type 0 → Type 0 → Type 0 → Type 0
+FinishedWhereFree B C P = (m : Setup B C P) (s : State B C P) → 0 < m.width → AllTickets m s → s.trap ≡ None → all_finished m.width s.seats s.next ≡ list_all is_free s.seats
 
 -- Waits: one of `left` is on the worker of j, for j or later.
 abbrev pub Covers : ℕ → List Wait → ℕ → Type 0
@@ -160,3 +180,7 @@ pub record Invariant {B C P : Type 0} (m : Setup B C P) (nest : Nest) (tree : B 
   pub words : WordsKept m.system.fixed nest.opening trace s.words
   pub course : CourseKept m nest tree s
   pub gone : AllGone m s
+
+-- Each legal history leaves a state with the invariant.
+abbrev pub HistoriesKeepInvariant : Type 0 → Type 0 → Type 0 → Type 0
+HistoriesKeepInvariant B C P = (m : Setup B C P) (nest : Nest) (tree : B → Cut) (start : C) → IsSetupFor m nest tree start → (history : List ℕ) (s : State B C P) → Leads m nest start history s → Invariant m nest tree s (trace_from m (opening m start nest.opening) history)

@@ -1,7 +1,7 @@
 -- The machine: a scheduler hands out iterations, and each worker carries out its own in their order, one stop at a time.
 -- Actors have numbers: workers are 0 to `width - 1`, the scheduler is `width`, and a further actor has nothing to do.
 -- It is said for any bodies `B`, as a cursor hands them out, any cursors `C` and any pieces of work `P`.
-use Rattle.std.specs.Prelude.{◌≡◌, ℕ, zero, suc, ◌%◌, ℤ, Bool, true, false, ◌&&◌, if◌then◌else◌, ◌==◌, Option, Some, None, List, [], ◌∷◌, ◌++◌, length, replicate, nat_lt, slice_index_or, slice_set}
+use Rattle.std.specs.Prelude.{ℕ, zero, suc, ◌%◌, ℤ, Bool, true, false, ◌&&◌, if◌then◌else◌, ◌==◌, Option, Some, None, List, [], ◌∷◌, ◌++◌, length, replicate, nat_lt, slice_index_or, slice_set}
 use Rattle.std.specs.Option.{option_map, option_map_or}
 use Rattle.nest_syntax.specs.declared.names.Line.{Line}
 use Rattle.nest_syntax.specs.declared.operators.Cause.{Cause}

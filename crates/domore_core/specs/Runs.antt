@@ -1,5 +1,5 @@
 -- Runs: a history is a list of actors, each of whom makes one step.
-use Rattle.std.specs.Prelude.{◌≡◌, ℕ, ℤ, Bool, true, ◌&&◌, Option, Some, List, [], ◌∷◌, ◌++◌}
+use Rattle.std.specs.Prelude.{◌≡◌, ℕ, Bool, true, ◌&&◌, Option, Some, List, [], ◌∷◌, ◌++◌}
 use Rattle.std.specs.Option.{option_map_or, option_and_then}
 use Rattle.std.specs.List.{list_all}
 use Rattle.nest_syntax.specs.Outcome.{Ending, Done, TrappedAt}

@@ -46,14 +46,16 @@ settle_behind words a (b ∷ trace) clear = ap (λ x. settle x trace) (commute w
 pub replays_before : (words : List ℤ) (a : Access) (trace : List Access) → Clear a trace → Replays (apply words a) trace → Replays words trace
 replays_before words a [] clear replays = tt
 replays_before words a (b ∷ trace) clear replays = (
-    sees_before words b a (λ c. clear.0 (conflict_comm b a c)) replays.0,
-    replays_before (apply words b) a trace clear.1 (subst (λ x. Replays x trace) (commute words a b clear.0) replays.1))
+  sees_before words b a (λ c. clear.0 (conflict_comm b a c)) replays.0,
+  replays_before (apply words b) a trace clear.1 (subst (λ x. Replays x trace) (commute words a b clear.0) replays.1),
+)
 
 pub replays_behind : (words : List ℤ) (a : Access) (trace : List Access) → Clear a trace → Replays words trace → Replays (apply words a) trace
 replays_behind words a [] clear replays = tt
 replays_behind words a (b ∷ trace) clear replays = (
-    sees_behind words b a (λ c. clear.0 (conflict_comm b a c)) replays.0,
-    subst (λ x. Replays x trace) (sym (commute words a b clear.0)) (replays_behind (apply words b) a trace clear.1 replays.1))
+  sees_behind words b a (λ c. clear.0 (conflict_comm b a c)) replays.0,
+  subst (λ x. Replays x trace) (sym (commute words a b clear.0)) (replays_behind (apply words b) a trace clear.1 replays.1),
+)
 
 -- a whole list of accesses that conflict with none of a trace may stand before it
 pub replays_behind_all : (words : List ℤ) (made trace : List Access) → Each (λ a. Clear a trace) made → Replays words trace → Replays (settle words made) trace

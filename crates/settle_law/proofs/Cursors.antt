@@ -1,16 +1,17 @@
 -- What the event of a cursor says: one step of a course that is followed.
-use Rattle.std.proofs.Common.{◌≡◌, ℕ, zero, suc, ◌+◌, ◌<◌, ◌≤◌, ℤ, true, Option, Some, None, List, [], ◌∷◌, ◌++◌, length, slice_get, refl, sym, ap, ◌∙◌, subst, arith, append_assoc, append-nil, length-append}
+use Rattle.std.proofs.Common.{◌≡◌, ℕ, zero, suc, ◌+◌, ℤ, Option, Some, None, List, [], ◌∷◌, ◌++◌, length, slice_get, refl, sym, ap, ◌∙◌, subst, arith, append_assoc, append-nil, length-append}
 use Rattle.std.proofs.lemmas.Option.{slice_get_past}
 use Rattle.std.specs.Option.{option_and_then, option_map_or}
-use Rattle.nest_syntax.specs.declared.names.Line.{Line}
-use Rattle.nest_syntax.specs.declared.operators.Cause.{Cause}
-use Rattle.nest_syntax.specs.Reads.{Ended, Completed, Stopped, on_words}
+use Rattle.nest_syntax.specs.Reads.{on_words}
 use Rattle.nest_syntax.specs.Course.{Purpose, Course}
 use Rattle.nest_syntax.specs.Course as course
 use Rattle.nest_syntax.specs.Outcome.{Ending, Done, TrappedAt, place_of_trap, Event as Passed, Computes, Drains, Iterates, Closes, Ends, completed, ending_from, events_from, iterations_among}
 use Rattle.nest_syntax.specs.Outcome as outcome_of
 use Rattle.settle_law.specs.Cuts.{Cut}
-use Rattle.settle_law.specs.Courses.{Trap, Event, End, Scalar, Drain, Iterate, Close, Nest, events_left, events, outcome, iteration_at, reached, cut_at, trap_of, Follows, Behind, TrapsThere, Onward, AtEvent, EventsTell, CursorsBegin}
+use Rattle.settle_law.specs.Courses.{Trap, Event, End, Iterate, Nest, events_left, events, outcome, iteration_at, reached, cut_at, trap_of, Follows, Behind, Onward, AtEvent, CursorsBegin}
+use Rattle.settle_law.specs.Tasks.{System, Realises}
+use Rattle.settle_law.specs.Reading.{KeepsFixed, NestKeepsFixed}
+use Rattle.settle_law.proofs.Turns.{keeps-from_realises}
 use Rattle.settle_law.proofs.Nests.{well}
 
 iterations_append : (xs ys : List Passed) → iterations_among (xs ++ ys) ≡ iterations_among xs ++ iterations_among ys
@@ -64,18 +65,25 @@ module _ {B C : Type 0} (nest : Nest) (tree : B → Cut) (event : C → Event B 
 
   -- an iteration
   at_iteration : (body : ℕ) (scalars : List ℤ) (rest : Course) (b : B) (after : C) → length (iterations_among passed) ≡ next → passed ++ events_left nest (course.Iterate body scalars rest) (reached nest next) ≡ events nest → ((words : List ℤ) → reached nest next ≡ Some words → ending_from nest.sizes nest.turn (course.Iterate body scalars rest) next words ≡ outcome nest) → tree b ≡ cut_at nest (body, scalars) → Follows nest tree event after rest → AtEvent nest tree event passed next (Iterate b after)
-  at_iteration body scalars rest b after counts all ends same follows = ((body, scalars), mine, same, record {
-    left = rest;
-    follows = follows;
-    counts = ap length (iterations_append passed (Iterates body scalars ∷ [])) ∙ length-append (iterations_among passed) ((body, scalars) ∷ []) ∙ (let more : length (iterations_among passed) + 1 ≡ suc next = omega (arith, counts) in more);
-    all_events = more_passed (Iterates body scalars) (events_left nest rest (reached nest (suc next))) (subst (λ o. passed ++ Iterates body scalars ∷ events_left nest rest o ≡ events nest) (sym then) all);
-    ends = λ words e. by_words (reached nest next) words refl (sym then ∙ e);
-  })
+  at_iteration body scalars rest b after counts all ends same follows = (
+    (body, scalars),
+    mine,
+    same,
+    record {
+      left = rest;
+      follows = follows;
+      counts = ap length (iterations_append passed (Iterates body scalars ∷ [])) ∙ length-append (iterations_among passed) ((body, scalars) ∷ []) ∙ (let more : length (iterations_among passed) + 1 ≡ suc next = omega (arith, counts) in more);
+      all_events = more_passed (Iterates body scalars) (events_left nest rest (reached nest (suc next))) (subst (λ o. passed ++ Iterates body scalars ∷ events_left nest rest o ≡ events nest) (sym then) all);
+      ends = λ words e. by_words (reached nest next) words refl (sym then ∙ e);
+    },
+  )
     where
       mine : iteration_at nest next ≡ Some (body, scalars)
       mine = ap (λ l. slice_get (iterations_among l) next) (sym all) ∙ ap (λ l. slice_get l next) (iterations_append passed (events_left nest (course.Iterate body scalars rest) (reached nest next))) ∙ subst (λ n. slice_get (iterations_among passed ++ iterations_among (events_left nest (course.Iterate body scalars rest) (reached nest next))) n ≡ Some (body, scalars)) counts (at_seam (iterations_among passed) (body, scalars) _)
+
       then : reached nest (suc next) ≡ option_and_then (λ words. completed (on_words nest.sizes (nest.turn body scalars) words)) (reached nest next)
       then = ap (λ o. option_and_then (λ words. option_and_then (λ (i : ℕ × List ℤ). completed (on_words nest.sizes (nest.turn i.0 i.1) words)) o) (reached nest next)) mine
+
       by_words : (o : Option (List ℤ)) (words : List ℤ) → reached nest next ≡ o → option_and_then (λ w. completed (on_words nest.sizes (nest.turn body scalars) w)) o ≡ Some words → ending_from nest.sizes nest.turn rest (suc next) words ≡ outcome nest
       by_words None words is e = absurd (let no : None ≡ Some words = e in cc)
       by_words (Some before) words is e = sym (ap (λ x. outcome_of.behind next x (ending_from nest.sizes nest.turn rest (suc next))) (well (on_words nest.sizes (nest.turn body scalars) before) words e)) ∙ ends before is
@@ -109,3 +117,28 @@ begins B C nest tree event cursor follows = record {
   all_events = refl;
   ends = λ words e. let s : Some nest.opening ≡ Some words = e in let t : nest.opening ≡ words = cc in ap (ending_from nest.sizes nest.turn nest.course 0) (sym t);
 }
+
+-- what holds of each iteration that a cursor gives holds of each of the course that it follows
+module _ {B C : Type 0} (nest : Nest) (tree : B → Cut) (event : C → Event B C) (Q : ℕ × List ℤ → Type 0) (given : (b : B) (i : ℕ × List ℤ) → tree b ≡ cut_at nest i → Q i) where
+  abbrev AllOf : Course → Type 0
+  AllOf left = (words : Option (List ℤ)) (k : ℕ) (i : ℕ × List ℤ) → slice_get (iterations_among (events_left nest left words)) k ≡ Some i → Q i
+
+  behind_all_of : (rest : Course) → (trap_of rest ≡ None → AllOf rest) → AllOf rest
+  behind_all_of rest more words k i at = by_trap (trap_of rest) refl
+    where
+      by_trap : (o : Option Trap) → trap_of rest ≡ o → Q i
+      by_trap None is = more is words k i at
+      by_trap (Some trap) is = absurd (let none : None ≡ Some i = subst (λ c. slice_get (iterations_among (events_left nest c words)) k ≡ Some i) (failed rest trap is) at in cc)
+
+  all_of : (left : Course) (cursor : C) → Follows nest tree event cursor left → AllOf left
+  all_of course.End cursor is words k i at = absurd (let no : None ≡ Some i = at in cc)
+  all_of (course.Failed cause line) cursor is words k i at = elim is [ ]
+  all_of (course.Scalar purpose rest) cursor (after, is, follows) words k i at = behind_all_of rest (λ none. all_of rest after (follows none)) words k i at
+  all_of (course.Drain purpose rest) cursor (trap, after, is, follows) None k i at = absurd (let no : None ≡ Some i = at in cc)
+  all_of (course.Drain purpose rest) cursor (trap, after, is, follows) (Some words) k i at = behind_all_of (rest words) (λ none. all_of (rest words) (after words) ((follows words).1 none)) (Some words) k i at
+  all_of (course.Iterate body scalars rest) cursor (b, after, is, same, follows) words zero i at = let s : Some (body, scalars) ≡ Some i = at in let t : (body, scalars) ≡ i = cc in subst Q t (given b (body, scalars) same)
+  all_of (course.Iterate body scalars rest) cursor (b, after, is, same, follows) words (suc k) i at = all_of rest after follows (option_and_then (λ w. completed (on_words nest.sizes (nest.turn body scalars) w)) words) k i at
+  all_of (course.Close rest) cursor (after, is, follows) words k i at = all_of rest after follows words k i at
+
+pub followed_keeps : {B C P : Type 0} (sys : System P) (nest : Nest) (tree : B → Cut) (entry : B → P) (event : C → Event B C) (cursor : C) → ((b : B) → Realises sys (tree b) (entry b)) → Follows nest tree event cursor nest.course → NestKeepsFixed sys.fixed nest
+followed_keeps sys nest tree entry event cursor begins follows k i at = all_of nest tree event (λ j. KeepsFixed nest.sizes sys.fixed (nest.turn j.0 j.1)) (λ b j same. keeps-from_realises sys nest.sizes 0 (nest.turn j.0 j.1) (entry b) (subst (λ c. Realises sys c (entry b)) same (begins b))) nest.course cursor follows (Some nest.opening) k i at

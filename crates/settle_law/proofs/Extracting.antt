@@ -1,5 +1,5 @@
 -- The lowest iteration may be taken out of a trace that is in order, to the front.
-use Rattle.std.proofs.Common.{◌≡◌, ℕ, suc, ◌<◌, ◌≤◌, ◌⊎◌, ℤ, List, [], ◌∷◌, refl, sym, ap, ◌∙◌, subst, inl, inr, ⊎_elim, arith}
+use Rattle.std.proofs.Common.{◌≡◌, ℕ, suc, ◌<◌, ◌≤◌, ◌⊎◌, ℤ, List, [], ◌∷◌, refl, sym, ap, ◌∙◌, subst, inl, inr, arith}
 use Rattle.std.proofs.lemmas.Bool.{cases_order}
 use Rattle.settle_law.specs.Traces.{Access, iteration, Each, apply, settle, Sees, Replays, Conflict, InOrder, part, behind}
 use Rattle.settle_law.proofs.Members.{part_own, part_other, behind_kept, behind_gone}
@@ -17,10 +17,11 @@ first_too words a whole first others sees (replays, later, same) = ((sees, repla
 
 later_too : (words : List ℤ) (a : Access) (whole first others : List Access) → Clear a first → Sees words a → Split (apply words a) whole first others → Split words (a ∷ whole) first (a ∷ others)
 later_too words a whole first others clear sees (replays, later, same) =
-    let moves : settle (apply words a) first ≡ apply (settle words first) a = settle_behind words a first clear in
-    (replays_before words a first clear replays,
-    (sees_settled words a first clear sees, subst (λ x. Replays x others) moves later),
-    ap (λ x. settle x others) (sym moves) ∙ same)
+    let moves : settle (apply words a) first ≡ apply (settle words first) a = settle_behind words a first clear in (
+      replays_before words a first clear replays,
+      (sees_settled words a first clear sees, subst (λ x. Replays x others) moves later),
+      ap (λ x. settle x others) (sym moves) ∙ same,
+    )
 
 by_order : (m : ℕ) (words : List ℤ) (a : Access) (trace : List Access) → Each (λ b. Conflict a b → iteration a ≤ iteration b) trace → ((w : List ℤ) → Replays w (behind m trace) → Split w (behind m trace) (part m trace) (behind (suc m) trace)) → Replays words (behind m (a ∷ trace)) → (iteration a ≡ m) ⊎ ((iteration a < m) ⊎ (m < iteration a)) → Split words (behind m (a ∷ trace)) (part m (a ∷ trace)) (behind (suc m) (a ∷ trace))
 by_order m words a trace leads more replays (inl own) =

@@ -1,15 +1,13 @@
 -- The law: parts are textual, and finished parts carry the words.
-use Rattle.std.proofs.Common.{◌≡◌, ℕ, zero, suc, ◌<◌, ◌≤◌, ◌⊎◌, ℤ, Option, Some, None, List, [], ◌∷◌, ◌++◌, refl, sym, ap, ◌∙◌, subst, inl, inr, ⊎_elim, append-nil, arith}
+use Rattle.std.proofs.Common.{◌≡◌, ℕ, zero, suc, ◌<◌, ◌≤◌, ◌⊎◌, ℤ, Option, Some, None, List, ◌++◌, refl, sym, ap, ◌∙◌, subst, inl, inr, append-nil, arith}
 use Rattle.std.proofs.lemmas.Bool.{cases_order}
 use Rattle.std.specs.Option.{option_and_then}
-use Rattle.nest_syntax.specs.declared.names.Line.{Line}
-use Rattle.nest_syntax.specs.declared.operators.Cause.{Cause}
 use Rattle.nest_syntax.specs.Reads.{Ended, Completed, Stopped}
 use Rattle.nest_syntax.specs.Outcome.{completed}
 use Rattle.settle_law.specs.Trees.{Tree, Finished, Trapped, turn}
-use Rattle.settle_law.specs.Traces.{Access, iteration, Each, settle, Replays, Conflict, part, behind, Makes, Fits, IsFinished, IsTrapped, Apart}
-use Rattle.settle_law.specs.Law.{accesses, after, Lawful, FinishedParts, Textual, PartsAreTextual, FinishedPartsReach, FinishedPartsSettle, TrappedPartIsTextual}
-use Rattle.settle_law.proofs.Members.{Has, each_at, each_of, each_behind, each_either, has_part, behind_has, behind_all, behind_none, part_is_own}
+use Rattle.settle_law.specs.Traces.{Access, iteration, Each, settle, Replays, Conflict, part, behind, Makes, Fits, IsFinished, Apart}
+use Rattle.settle_law.specs.Law.{accesses, after, Lawful, FinishedParts, Textual, PartsAreTextual, FinishedPartsReach, FinishedPartsSettle, FinishedPartsAreWhole, TrappedPartIsTextual}
+use Rattle.settle_law.proofs.Members.{each_at, each_of, each_behind, each_either, has_part, behind_has, behind_all, behind_none, part_is_own}
 use Rattle.settle_law.proofs.Commuting.{Clear, replays_behind_all}
 use Rattle.settle_law.proofs.Makings.{agrees, makes_append, makes_accesses, EndsIn}
 use Rattle.settle_law.proofs.Extracting.{Split, extracted}
@@ -30,6 +28,7 @@ completes m rest words last e = from (makes_accesses m rest words)
     ended : (left : Tree) (end : Ended) → end ≡ Completed last → Makes rest (accesses m rest words) left → EndsIn end (settle words (accesses m rest words)) left → Makes rest (accesses m rest words) Finished × (last ≡ settle words (accesses m rest words))
     ended left (Completed reached) same makes ends = let s : Completed reached ≡ Completed last = same in let t : reached ≡ last = cc in (subst (Makes rest (accesses m rest words)) ends.0 makes, sym t ∙ ends.1)
     ended left (Stopped cause line reached) same makes ends = absurd (let no : Stopped cause line reached ≡ Completed last = same in cc)
+
     from : (left : Tree) × Makes rest (accesses m rest words) left × EndsIn (turn rest words) (settle words (accesses m rest words)) left → Makes rest (accesses m rest words) Finished × (last ≡ settle words (accesses m rest words))
     from (left, makes, ends) = ended left (turn rest words) e makes ends
 
@@ -81,6 +80,7 @@ module _ (family : ℕ → Tree) (opening : List ℤ) (m : ℕ) (base : List ℤ
     where
       go : ((before : List ℤ) → m ≤ n → after family opening n ≡ Some before → Replays before (behind n trace)) → m ≤ n → (before : List ℤ) × (after family opening n ≡ Some before) × (turn (family n) before ≡ Completed words) → Replays words (behind (suc n) trace)
       go more le (before, at, ends) = next_replays n before words le (more before le at) ends
+
       by_case : (suc n ≡ m) ⊎ ((suc n < m) ⊎ (m < suc n)) → ((before : List ℤ) → m ≤ n → after family opening n ≡ Some before → Replays before (behind n trace)) → Replays words (behind (suc n) trace)
       by_case (inl same) more = at_first (suc n) words same e
       by_case (inr (inl lower)) more = absurd (omega arith)
@@ -130,12 +130,22 @@ settles family opening m words trace lawful n from finished below = go (carried 
     go : Carried family opening m words trace lawful n → after family opening n ≡ Some (settle words trace)
     go (reached, at, replays, same) = at ∙ ap Some (ap (settle reached) (sym (behind_none n trace below)) ∙ same)
 
+pub wholes : FinishedPartsAreWhole
+wholes family opening m words trace lawful n finished k from below = go (carried family opening m words trace lawful k from (λ j ge lt. finished j ge (omega arith)))
+  where
+    go : Carried family opening m words trace lawful k → (reached : List ℤ) × (after family opening k ≡ Some reached) × (part k trace ≡ accesses k (family k) reached)
+    go (reached, at, replays, same) = (reached, at, ((textual family opening m words trace lawful k reached from at).finished (finished k from below)).0)
+
 pub traps : TrappedPartIsTextual
 traps family opening m words trace lawful n cause line from finished trapped = go (carried family opening m words trace lawful n from finished)
   where
     with_split : (reached : List ℤ) → after family opening n ≡ Some reached → settle reached (behind n trace) ≡ settle words trace → Split reached (behind n trace) (part n trace) (behind (suc n) trace) → (reached : List ℤ) × (after family opening n ≡ Some reached) × (turn (family n) reached ≡ Stopped cause line (settle reached (part n trace))) × (Each (λ a. iteration a ≤ n) trace → settle reached (part n trace) ≡ settle words trace)
-    with_split reached at same (own, later, settles_too) = (reached, at,
+    with_split reached at same (own, later, settles_too) = (
+      reached,
+      at,
       (own_agrees family opening m words trace lawful n reached (Trapped cause line) trapped own).1,
-      λ below. ap (settle (settle reached (part n trace))) (sym (behind_none (suc n) trace (each_of (λ a. iteration a < suc n) trace (λ a has. let le : iteration a ≤ n = each_at (λ x. iteration x ≤ n) trace a below has in omega arith)))) ∙ settles_too ∙ same)
+      λ below. ap (settle (settle reached (part n trace))) (sym (behind_none (suc n) trace (each_of (λ a. iteration a < suc n) trace (λ a has. let le : iteration a ≤ n = each_at (λ x. iteration x ≤ n) trace a below has in omega arith)))) ∙ settles_too ∙ same,
+    )
+
     go : Carried family opening m words trace lawful n → (reached : List ℤ) × (after family opening n ≡ Some reached) × (turn (family n) reached ≡ Stopped cause line (settle reached (part n trace))) × (Each (λ a. iteration a ≤ n) trace → settle reached (part n trace) ≡ settle words trace)
     go (reached, at, replays, same) = with_split reached at same (extracted n reached trace lawful.in_order replays)

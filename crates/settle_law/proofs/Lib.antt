@@ -10,3 +10,5 @@ pub mod Turns
 pub mod Reading
 pub mod Nests
 pub mod Cursors
+pub mod Seats
+pub mod Samples

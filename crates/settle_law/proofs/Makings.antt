@@ -1,11 +1,9 @@
 -- What a tree makes, in one list and then another, and against its turn in textual order.
-use Rattle.std.proofs.Common.{◌≡◌, ℕ, suc, ℤ, List, [], ◌∷◌, ◌++◌, refl, sym, ap, ◌∙◌, subst, append-nil}
-use Rattle.nest_syntax.specs.declared.names.Line.{Line}
-use Rattle.nest_syntax.specs.declared.operators.Cause.{Cause}
+use Rattle.std.proofs.Common.{◌≡◌, ℕ, ℤ, List, [], ◌∷◌, ◌++◌, refl, sym, ap, ◌∙◌, subst}
 use Rattle.nest_syntax.specs.Arrays.{word_at, with_word}
 use Rattle.nest_syntax.specs.Reads.{Ended, Completed, Stopped}
 use Rattle.settle_law.specs.Trees.{Tree, Finished, Trapped, Load, Store, turn}
-use Rattle.settle_law.specs.Traces.{Access, Read, Write, iteration, Each, apply, settle, Replays, Makes}
+use Rattle.settle_law.specs.Traces.{Access, Read, Write, iteration, Each, settle, Replays, Makes}
 use Rattle.settle_law.specs.Law.{accesses}
 
 -- what is left of a tree behind a list is one tree
@@ -56,9 +54,10 @@ agrees k (Load w go) (Read j u value ∷ made) rest words m own replays = one_mo
     one_more (same, ends) =
         let at : w ≡ u = m.0 in
         let mine : j ≡ k = own.0 in
-        let seen : word_at words w ≡ value = ap (word_at words) at ∙ replays.0 in
-        (subst (λ x. Read k w x ∷ accesses k (go x) words ≡ (Read j u value ∷ made) ++ accesses k rest (settle words made)) (sym seen) (ap (λ i. Read i w value ∷ accesses k (go value) words) (sym mine) ∙ ap (λ i. Read j i value ∷ accesses k (go value) words) at ∙ ap (λ l. Read j u value ∷ l) same),
-        ap (λ x. turn (go x) words) seen ∙ ends)
+        let seen : word_at words w ≡ value = ap (word_at words) at ∙ replays.0 in (
+          subst (λ x. Read k w x ∷ accesses k (go x) words ≡ (Read j u value ∷ made) ++ accesses k rest (settle words made)) (sym seen) (ap (λ i. Read i w value ∷ accesses k (go value) words) (sym mine) ∙ ap (λ i. Read j i value ∷ accesses k (go value) words) at ∙ ap (λ l. Read j u value ∷ l) same),
+          ap (λ x. turn (go x) words) seen ∙ ends,
+        )
 agrees k (Load w go) (Write j u value ∷ made) rest words m own replays = elim m [ ]
 agrees k (Store w new tree) (Read j u value ∷ made) rest words m own replays = elim m [ ]
 agrees k (Store w new tree) (Write j u value ∷ made) rest words m own replays = one_more (agrees k tree made rest (with_word words u value) m.2 own.1 replays.1)
@@ -67,6 +66,7 @@ agrees k (Store w new tree) (Write j u value ∷ made) rest words m own replays 
     one_more (same, ends) =
         let at : w ≡ u = m.0 in
         let written : new ≡ value = m.1 in
-        let mine : j ≡ k = own.0 in
-        (ap (λ i. Write k i new ∷ accesses k tree (with_word words i new)) at ∙ ap (λ x. Write k u x ∷ accesses k tree (with_word words u x)) written ∙ ap (λ i. Write i u value ∷ accesses k tree (with_word words u value)) (sym mine) ∙ ap (λ l. Write j u value ∷ l) same,
-        ap (λ i. turn tree (with_word words i new)) at ∙ ap (λ x. turn tree (with_word words u x)) written ∙ ends)
+        let mine : j ≡ k = own.0 in (
+          ap (λ i. Write k i new ∷ accesses k tree (with_word words i new)) at ∙ ap (λ x. Write k u x ∷ accesses k tree (with_word words u x)) written ∙ ap (λ i. Write i u value ∷ accesses k tree (with_word words u value)) (sym mine) ∙ ap (λ l. Write j u value ∷ l) same,
+          ap (λ i. turn tree (with_word words i new)) at ∙ ap (λ x. turn tree (with_word words u x)) written ∙ ends,
+        )

@@ -1,6 +1,6 @@
 -- Membership in traces and parts: what holds of each access, and which accesses a part has.
-use Rattle.std.proofs.Common.{◌≡◌, ℕ, suc, ◌<◌, ◌≤◌, ◌⊎◌, ◌==◌, nat_le, true, false, List, [], ◌∷◌, ◌++◌, refl, sym, ap, ◌∙◌, subst, inl, inr, ⊎_elim, arith}
-use Rattle.std.proofs.lemmas.Bool.{eq-eqb, ne_eqb, eqb-true, le-leb, lt-leb, cases_eq, cases_lt}
+use Rattle.std.proofs.Common.{◌≡◌, ℕ, ◌<◌, ◌≤◌, ◌⊎◌, List, [], ◌∷◌, ◌++◌, refl, sym, ap, ◌∙◌, subst, inl, inr, ⊎_elim}
+use Rattle.std.proofs.lemmas.Bool.{eq-eqb, ne_eqb, le-leb, lt-leb, cases_eq, cases_lt}
 use Rattle.settle_law.specs.Traces.{Access, iteration, Each, keep, part, behind}
 
 abbrev pub Has : Access → List Access → Type 0
@@ -66,6 +66,7 @@ part_has k b (a ∷ trace) has = ⊎_elim
   where
     later : Has b trace × (iteration b ≡ k) → Has b (a ∷ trace) × (iteration b ≡ k)
     later h = (inr h.0, h.1)
+
     head : iteration a ≡ k → (a ≡ b) ⊎ Has b (part k trace) → (Has b (part k trace) → Has b trace × (iteration b ≡ k)) → Has b (a ∷ trace) × (iteration b ≡ k)
     head mine (inl same) more = (inl same, sym (ap iteration same) ∙ mine)
     head mine (inr others) more = later (more others)
@@ -79,6 +80,7 @@ behind_has k b (a ∷ trace) has = ⊎_elim
   where
     later : Has b trace × (k ≤ iteration b) → Has b (a ∷ trace) × (k ≤ iteration b)
     later h = (inr h.0, h.1)
+
     head : k ≤ iteration a → (a ≡ b) ⊎ Has b (behind k trace) → (Has b (behind k trace) → Has b trace × (k ≤ iteration b)) → Has b (a ∷ trace) × (k ≤ iteration b)
     head kept (inl same) more = (inl same, subst (λ x. k ≤ iteration x) same kept)
     head kept (inr others) more = later (more others)

@@ -1,5 +1,5 @@
 -- The words that a nest reaches, against those of the law for its family, and its outcome at a trap.
-use Rattle.std.proofs.Common.{◌≡◌, ℕ, zero, suc, ◌+◌, ◌<◌, ◌≤◌, ℤ, false, Option, Some, None, IsSome, List, [], ◌∷◌, slice_get, refl, sym, ap, ◌∙◌, subst, arith, add-suc, suc-add, add-zero}
+use Rattle.std.proofs.Common.{◌≡◌, ℕ, zero, suc, ◌+◌, ◌<◌, ℤ, false, Option, Some, None, IsSome, List, ◌∷◌, map, slice_get, refl, sym, ap, ◌∙◌, subst, arith, add-zero}
 use Rattle.std.proofs.lemmas.Bool.{false≢true}
 use Rattle.std.specs.Option.{option_map, option_map_or, option_and_then}
 use Rattle.nest_syntax.specs.declared.names.Line.{Line}
@@ -7,16 +7,17 @@ use Rattle.nest_syntax.specs.declared.operators.Cause.{Cause}
 use Rattle.nest_syntax.specs.declared.tree.Program.{Program}
 use Rattle.nest_syntax.specs.Arrays.{arrays_of, sizes_of}
 use Rattle.nest_syntax.specs.Turn.{Turn}
-use Rattle.nest_syntax.specs.Reads.{Ended, Completed, Stopped, on_words}
+use Rattle.nest_syntax.specs.Reads.{Ended, Completed, Stopped, on_words, accesses_on}
 use Rattle.nest_syntax.specs.Course.{Course, End, Failed, Scalar, Drain, Iterate, Close, bodies_of}
-use Rattle.nest_syntax.specs.Outcome.{Ending, TrappedAt, place_of_trap, completed, turn_in, ending_from, events_from, iterations_among, iteration_turn, after as program_after}
+use Rattle.nest_syntax.specs.Outcome.{Ending, TrappedAt, place_of_trap, completed, turn_in, ending_from, events_from, iterations_among, iteration_turn, accesses_of, after as program_after}
 use Rattle.nest_syntax.specs.Outcome as outcome_of
-use Rattle.settle_law.specs.Trees.{Tree, Finished, turn}
+use Rattle.settle_law.specs.Trees.{Finished, turn}
 use Rattle.settle_law.specs.Cuts.{cut, plain, HoldsFixed}
-use Rattle.settle_law.specs.Law.{after}
-use Rattle.settle_law.specs.Courses.{Nest, nest_of, events, iteration_at, reached, cut_at, family_of, outcome, TrappedIterationIsOutcome}
-use Rattle.settle_law.specs.Reading.{KeepsFixed, NestKeepsFixed, ReachedIsAfter, AfterIsReached, ProgramIsNest}
-use Rattle.settle_law.proofs.Turns.{HoldsAtEnd, holds_at_end, turn_is}
+use Rattle.settle_law.specs.Law.{accesses, after}
+use Rattle.settle_law.specs.Traces.{Access}
+use Rattle.settle_law.specs.Courses.{Nest, nest_of, events, iteration_at, reached, cut_at, family_of, TrappedIterationIsOutcome}
+use Rattle.settle_law.specs.Reading.{NestKeepsFixed, ReachedIsAfter, AfterIsReached, ProgramIsNest, ProgramAccesses, StaysInside, of_iteration, fixed_in}
+use Rattle.settle_law.proofs.Turns.{HoldsAtEnd, holds_at_end, turn_is, accesses_are, keeps-from_tells, tells-from_inside}
 
 pub well : (ended : Ended) (last : List ℤ) → completed ended ≡ Some last → ended ≡ Completed last
 well (Completed words) last same = let s : Some words ≡ Some last = same in let t : words ≡ last = cc in ap Completed t
@@ -48,9 +49,10 @@ module _ (fixed : ℕ → Option ℤ) (nest : Nest) (opening_holds : HoldsFixed 
   reached_after (suc n) last e = go (reaching (step_of nest) (reached nest n) (iteration_at nest n) last e) (λ words at. reached_after n words at)
     where
       go : Reaching (step_of nest) (reached nest n) (iteration_at nest n) last → ((words : List ℤ) → reached nest n ≡ Some words → (after (family_of fixed nest) nest.opening n ≡ Some words) × HoldsFixed fixed words) → (after (family_of fixed nest) nest.opening (suc n) ≡ Some last) × HoldsFixed fixed last
-      go (words, i, before, at, ends) more =
-          (ap (λ o. option_and_then (λ w. completed (turn (family_of fixed nest n) w)) o) (more words before).0 ∙ ap completed (family_turn n i words at (more words before).1 ∙ ends),
-          subst (HoldsAtEnd nest.sizes fixed) ends (holds_at_end nest.sizes fixed (nest.turn i.0 i.1) words (keeps n i at) (more words before).1))
+      go (words, i, before, at, ends) more = (
+        ap (λ o. option_and_then (λ w. completed (turn (family_of fixed nest n) w)) o) (more words before).0 ∙ ap completed (family_turn n i words at (more words before).1 ∙ ends),
+        subst (HoldsAtEnd nest.sizes fixed) ends (holds_at_end nest.sizes fixed (nest.turn i.0 i.1) words (keeps n i at) (more words before).1),
+      )
 
   pub after_reached : (n : ℕ) → ((k : ℕ) → k < n → IsSome (iteration_at nest k)) → after (family_of fixed nest) nest.opening n ≡ reached nest n
   after_reached zero some = refl
@@ -77,12 +79,35 @@ module _ (program : Program) (words : List ℤ) where
   one_step None n = refl
   one_step (Some w) n = one_turn (iteration_at (nest_of program words) n) w
 
-  program_reaches : (n : ℕ) → reached (nest_of program words) n ≡ program_after program words n
+  pub program_reaches : (n : ℕ) → reached (nest_of program words) n ≡ program_after program words n
   program_reaches zero = refl
   program_reaches (suc n) = one_step (reached (nest_of program words) n) n ∙ ap (λ o. option_and_then (λ w. option_and_then (λ t. completed (on_words (sizes_of (arrays_of program.decls)) t w)) (iteration_turn program words n)) o) (program_reaches n)
 
 pub program_is_nest : ProgramIsNest
-program_is_nest program words = (program_reaches program words, refl)
+program_is_nest program words = record {
+  turns = λ k. refl;
+  reaches = λ n. sym (program_reaches program words n);
+  all_events = refl;
+  ends = refl;
+}
+
+abbrev alone : Program → ℕ → Option (List ℤ) → Option Turn → Option (List Access)
+alone program k o turns = option_map (map (of_iteration k)) (option_and_then (λ r. option_map (λ x. accesses_on (arrays_of program.decls) x r) turns) o)
+
+pub program_accesses : ProgramAccesses
+program_accesses program words fixed k t before at tells reached_it holds = by_iteration (iteration_at (nest_of program words) k) refl
+  where
+    by_iteration : (i : Option (ℕ × List ℤ)) → iteration_at (nest_of program words) k ≡ i → option_map (map (of_iteration k)) (accesses_of program words k) ≡ Some (accesses k (family_of fixed (nest_of program words) k) before)
+    by_iteration None is = absurd (let none : iteration_turn program words k ≡ None = ap (option_map (λ (i : ℕ × List ℤ). turn_in (arrays_of program.decls) (bodies_of program) i.0 i.1)) is in let no : None ≡ Some t = sym none ∙ at in cc)
+    by_iteration (Some i) is =
+        let mine : iteration_turn program words k ≡ Some ((nest_of program words).turn i.0 i.1) = ap (option_map (λ (i : ℕ × List ℤ). turn_in (arrays_of program.decls) (bodies_of program) i.0 i.1)) is in
+        let both : Some ((nest_of program words).turn i.0 i.1) ≡ Some t = sym mine ∙ at in
+        let same : (nest_of program words).turn i.0 i.1 ≡ t = cc in
+        ap (λ o. alone program k o (iteration_turn program words k)) reached_it ∙ ap (alone program k (Some before)) at ∙ ap Some (accesses_are (arrays_of program.decls) fixed words k 0 t before tells holds ∙ ap (λ x. accesses k (plain fixed (cut (sizes_of (arrays_of program.decls)) 0 x)) before) (sym same) ∙ ap (λ x. accesses k x before) (sym (family_at fixed (nest_of program words) k i is)))
+
+-- a program whose turns stay inside their arrays tells rightly of its `const` words
+pub program_keeps : (program : Program) (words : List ℤ) → ((k : ℕ) (i : ℕ × List ℤ) → iteration_at (nest_of program words) k ≡ Some i → StaysInside (arrays_of program.decls) ((nest_of program words).turn i.0 i.1)) → NestKeepsFixed (fixed_in (arrays_of program.decls) words) (nest_of program words)
+program_keeps program words inside k i at = keeps-from_tells (arrays_of program.decls) (fixed_in (arrays_of program.decls) words) words ((nest_of program words).turn i.0 i.1) (tells-from_inside (arrays_of program.decls) words ((nest_of program words).turn i.0 i.1) (inside k i at))
 
 -- the words reached along a list of iterations
 module _ (sizes : List ℕ) (turn_at : ℕ → List ℤ → Turn) where
@@ -123,6 +148,7 @@ module _ (sizes : List ℕ) (turn_at : ℕ → List ℤ → Turn) where
     where
       later : walked (its rest (completed (step (body, scalars) opening))) (completed (step (body, scalars) opening)) n ≡ Some words
       later = sym (walked_first (body, scalars) (its rest (completed (step (body, scalars) opening))) (Some opening) n) ∙ e
+
       by_end : (ended : Ended) → step (body, scalars) opening ≡ ended → ((behind : List ℤ) → completed (step (body, scalars) opening) ≡ Some behind → ending_from sizes turn_at rest (suc k) behind ≡ TrappedAt (place_of_trap cause line (suc k + n) false)) → ending_from sizes turn_at (Iterate body scalars rest) k opening ≡ TrappedAt (place_of_trap cause line (k + suc n) false)
       by_end (Completed behind) is more = ap (λ x. outcome_of.behind k x (ending_from sizes turn_at rest (suc k))) is ∙ more behind (ap completed is) ∙ ap (λ m. TrappedAt (place_of_trap cause line m false)) (omega arith)
       by_end (Stopped why place behind) is more = absurd (let none : completed (step (body, scalars) opening) ≡ None = ap completed is in let gone : walked (its rest None) None n ≡ Some words = subst (λ o. walked (its rest o) o n ≡ Some words) none later in let no : None ≡ Some words = sym (walked_none (its rest None) n) ∙ gone in cc)

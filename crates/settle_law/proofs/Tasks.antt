@@ -1,5 +1,5 @@
 -- What a stop of a piece says of what is left of its iteration's tree.
-use Rattle.std.proofs.Common.{◌≡◌, ℕ, ◌<◌, ℤ, Option, Some, None, List, [], ◌∷◌, ◌++◌, refl, sym, ap, ◌∙◌, subst}
+use Rattle.std.proofs.Common.{◌≡◌, ℕ, ◌<◌, ℤ, Option, Some, None, List, [], ◌∷◌, ◌++◌, refl, sym, subst}
 use Rattle.std.specs.Option.{option_map_or}
 use Rattle.nest_syntax.specs.declared.names.Line.{Line}
 use Rattle.nest_syntax.specs.declared.operators.Cause.{Cause}
@@ -7,7 +7,7 @@ use Rattle.settle_law.specs.Trees.{Tree}
 use Rattle.settle_law.specs.Trees as tree
 use Rattle.settle_law.specs.Cuts.{Cut, Finished, Trapped, Reads, Writes, Pauses, plain, CanBeRead}
 use Rattle.settle_law.specs.Traces.{Access, Read, Write, Makes, IsFinished, IsTrapped}
-use Rattle.settle_law.specs.Tasks.{Stop, Loads, Stores, Goes, Finishes, Traps, System, Realises, Left, AtLoad, AtStop, StopsTell, PiecesBegin}
+use Rattle.settle_law.specs.Tasks.{Loads, Stores, Goes, Finishes, Traps, System, Realises, Left, AtLoad, AtStop, StopsTell, PiecesBegin}
 use Rattle.settle_law.proofs.Push.{makes_read, makes_write}
 
 module _ {P : Type 0} (sys : System P) (whole : Tree) (made : List Access) (p : P) where

@@ -1,20 +1,20 @@
 -- A turn on the words against the plain tree of its cut turn.
-use Rattle.std.proofs.Common.{◌≡◌, ℕ, zero, suc, ◌+◌, ◌-◌, ◌<◌, ◌≤◌, ℤ, Bool, true, false, if◌then◌else◌, nat_lt, Option, Some, None, List, [], ◌∷◌, map, take, sum, get_or, refl, sym, ap, ◌∙◌, subst, add_assoc, arith}
+use Rattle.std.proofs.Common.{◌≡◌, ℕ, zero, suc, ◌+◌, ◌-◌, ◌<◌, ℤ, Bool, true, false, if◌then◌else◌, nat_lt, Option, Some, None, List, [], ◌∷◌, map, take, sum, get_or, refl, sym, ap, ◌∙◌, subst, add_assoc, arith}
 use Rattle.std.proofs.lemmas.Bool.{lt-ltb, le-ltb}
 use Rattle.std.proofs.lemmas.List.Sums.{sum_by-cons}
 use Rattle.std.specs.Option.{option_map_or}
-use Rattle.nest_syntax.specs.declared.names.Line.{Line}
-use Rattle.nest_syntax.specs.declared.operators.Cause.{Cause}
 use Rattle.nest_syntax.specs.Arrays.{Array, sizes_of, is_fixed, word_number, word_at, with_word}
 use Rattle.nest_syntax.specs.Turn.{Turn, Finished, Trapped, Load, Store, Op, Go}
 use Rattle.nest_syntax.specs.Reads.{Ended, Completed, Stopped, on_words, accesses_on}
 use Rattle.nest_syntax.specs.Reads as reads
 use Rattle.settle_law.specs.Trees.{Tree, turn}
 use Rattle.settle_law.specs.Trees as tree
-use Rattle.settle_law.specs.Cuts.{Cut, Pauses, cut, plain, pausing, is_full, one_more, CanBeRead, HoldsFixed}
-use Rattle.settle_law.specs.Traces.{Access, Read, Write}
+use Rattle.settle_law.specs.Cuts.{Cut, cut, plain, pausing, is_full, one_more, CanBeRead, HoldsFixed}
+use Rattle.settle_law.specs.Traces.{Read, Write}
 use Rattle.settle_law.specs.Law.{accesses}
-use Rattle.settle_law.specs.Reading.{of_iteration, KeepsFixed, TellsFixed, told, is_fixed_word, fixed_in, StaysInside, TurnIsTree, AccessesAreTree}
+use Rattle.settle_law.specs.Reading.{number_in, of_iteration, KeepsFixed, TellsFixed, told, is_fixed_word, fixed_in, StaysInside, TurnIsTree, AccessesAreTree, InsideTurnsTell, WithinTurn, WithinTurnIsWithin}
+use Rattle.settle_law.specs.Claims.{Claims, Within}
+use Rattle.settle_law.specs.Tasks.{System, Realises}
 use Rattle.settle_law.proofs.Commuting.{other_word}
 
 pub plain_pausing : (fixed : ℕ → Option ℤ) (due : Bool) (c : Cut) → plain fixed (pausing due c) ≡ plain fixed c
@@ -77,11 +77,11 @@ module _ (arrays : List Array) (fixed : ℕ → Option ℤ) (opening : List ℤ)
   accesses_are n Finished words tells holds = refl
   accesses_are n (Trapped cause line) words tells holds = refl
   accesses_are n (Load array place go) words tells holds =
-      let can : CanBeRead (fixed (word_number (sizes_of arrays) array place)) (word_at words (word_number (sizes_of arrays) array place)) = can_read (sizes_of arrays) fixed (word_number (sizes_of arrays) array place) words holds in
-      accesses_told (is_fixed arrays array) (fixed (word_number (sizes_of arrays) array place)) (word_at opening (word_number (sizes_of arrays) array place)) (word_number (sizes_of arrays) array place) (λ x. plain fixed (cut (sizes_of arrays) 0 (go x))) words
-      (accesses_on arrays (go (word_at words (word_number (sizes_of arrays) array place))) words)
-      tells.0 can (accesses_are 0 (go (word_at words (word_number (sizes_of arrays) array place))) words (tells.1 (word_at words (word_number (sizes_of arrays) array place)) can) holds)
-  accesses_are n (Store array place value rest) words tells holds = ap (λ l. Write k (word_number (sizes_of arrays) array place) value ∷ l) (accesses_are 0 rest (with_word words (word_number (sizes_of arrays) array place) value) tells.1 (holds_write fixed words (word_number (sizes_of arrays) array place) value tells.0 holds))
+      let can : CanBeRead (fixed (number_in arrays array place)) (word_at words (number_in arrays array place)) = can_read (sizes_of arrays) fixed (number_in arrays array place) words holds in
+      accesses_told (is_fixed arrays array) (fixed (number_in arrays array place)) (word_at opening (number_in arrays array place)) (number_in arrays array place) (λ x. plain fixed (cut (sizes_of arrays) 0 (go x))) words
+      (accesses_on arrays (go (word_at words (number_in arrays array place))) words)
+      tells.0 can (accesses_are 0 (go (word_at words (number_in arrays array place))) words (tells.1 (word_at words (number_in arrays array place)) can) holds)
+  accesses_are n (Store array place value rest) words tells holds = ap (λ l. Write k (number_in arrays array place) value ∷ l) (accesses_are 0 rest (with_word words (number_in arrays array place) value) tells.1 (holds_write fixed words (number_in arrays array place) value tells.0 holds))
   accesses_are n (Op rest) words tells holds = accesses_are (one_more n) rest words tells holds ∙ ap (λ x. accesses k x words) (sym (plain_pausing fixed (is_full n) (cut (sizes_of arrays) (one_more n) rest)))
   accesses_are n (Go rest) words tells holds = accesses_are 0 rest words tells holds
 
@@ -98,7 +98,7 @@ keeps-from_tells arrays fixed words (Op rest) tells = keeps-from_tells arrays fi
 keeps-from_tells arrays fixed words (Go rest) tells = keeps-from_tells arrays fixed words rest tells
 
 -- a word inside an array is `const` where the array is
-pub fixed_as_array : (arrays : List Array) (array place : ℕ) → place < get_or (sizes_of arrays) array 0 → is_fixed_word arrays (word_number (sizes_of arrays) array place) ≡ is_fixed arrays array
+pub fixed_as_array : (arrays : List Array) (array place : ℕ) → place < get_or (sizes_of arrays) array 0 → is_fixed_word arrays (number_in arrays array place) ≡ is_fixed arrays array
 fixed_as_array [] array place inside = absurd (omega (arith, inside))
 fixed_as_array (a ∷ arrays) zero place inside =
     let here : nat_lt (0 + place) a.size ≡ true = lt-ltb (0 + place) a.size (omega (arith, inside)) in
@@ -114,8 +114,8 @@ fixed_as_array (a ∷ arrays) (suc n) place inside =
 pub tells-from_inside : (arrays : List Array) (words : List ℤ) (t : Turn) → StaysInside arrays t → TellsFixed arrays (fixed_in arrays words) words t
 tells-from_inside arrays words Finished inside = tt
 tells-from_inside arrays words (Trapped cause line) inside = tt
-tells-from_inside arrays words (Load array place go) inside = (ap (λ b. told b (word_at words (word_number (sizes_of arrays) array place))) (fixed_as_array arrays array place inside.0), λ value can. tells-from_inside arrays words (go value) (inside.1 value))
-tells-from_inside arrays words (Store array place value rest) inside = (ap (λ b. told b (word_at words (word_number (sizes_of arrays) array place))) (fixed_as_array arrays array place inside.0 ∙ inside.1), tells-from_inside arrays words rest inside.2)
+tells-from_inside arrays words (Load array place go) inside = (ap (λ b. told b (word_at words (number_in arrays array place))) (fixed_as_array arrays array place inside.0), λ value can. tells-from_inside arrays words (go value) (inside.1 value))
+tells-from_inside arrays words (Store array place value rest) inside = (ap (λ b. told b (word_at words (number_in arrays array place))) (fixed_as_array arrays array place inside.0 ∙ inside.1), tells-from_inside arrays words rest inside.2)
 tells-from_inside arrays words (Op rest) inside = tells-from_inside arrays words rest inside
 tells-from_inside arrays words (Go rest) inside = tells-from_inside arrays words rest inside
 
@@ -126,3 +126,51 @@ holds_opening arrays words w old is = by_test (is_fixed_word arrays w) is
     by_test : (b : Bool) → told b (word_at words w) ≡ Some old → word_at words w ≡ old
     by_test true same = let s : Some (word_at words w) ≡ Some old = same in cc
     by_test false same = absurd (let no : None ≡ Some old = same in cc)
+
+pub inside_turns_tell : InsideTurnsTell
+inside_turns_tell arrays words = (holds_opening arrays words, λ t inside. tells-from_inside arrays words t inside)
+
+-- a turn whose cut turn is realised writes no word that is told
+pub keeps-from_realises : {P : Type 0} (sys : System P) (sizes : List ℕ) (n : ℕ) (t : Turn) (piece : P) → Realises sys (cut sizes n t) piece → KeepsFixed sizes sys.fixed t
+keeps-from_realises sys sizes n Finished piece r = tt
+keeps-from_realises sys sizes n (Trapped cause line) piece r = tt
+keeps-from_realises sys sizes n (Load array place go) piece (next, stop, more) = λ value can. keeps-from_realises sys sizes 0 (go value) (next value) (more value can).1
+keeps-from_realises sys sizes n (Store array place value rest) piece (next, stop, free, falls, more) = (free, keeps-from_realises sys sizes 0 rest next more)
+keeps-from_realises {P} sys sizes n (Op rest) piece r = by_pause (is_full n) piece (λ p more. keeps-from_realises sys sizes (one_more n) rest p more) r
+  where
+    by_pause : (due : Bool) (p : P) → ((q : P) → Realises sys (cut sizes (one_more n) rest) q → KeepsFixed sizes sys.fixed rest) → Realises sys (pausing due (cut sizes (one_more n) rest)) p → KeepsFixed sizes sys.fixed rest
+    by_pause true p go (next, stop, falls, more) = go next more
+    by_pause false p go more = go p more
+keeps-from_realises sys sizes n (Go rest) piece (next, stop, falls, more) = keeps-from_realises sys sizes 0 rest next more
+
+-- claims that hold a turn
+module _ (sizes : List ℕ) (fixed : ℕ → Option ℤ) (claims : Claims) where
+  -- a read, by what is told of its word
+  within_told : (o : Option ℤ) (w : ℕ) (f : ℤ → Tree) → (o ≡ None → claims.read w ≡ true) → ((value : ℤ) → CanBeRead o value → Within claims (f value)) → Within claims (option_map_or f o (tree.Load w f))
+  within_told None w f claimed more = (claimed refl, λ value. more value tt)
+  within_told (Some old) w f claimed more = more old refl
+
+  pub within_turn : (n : ℕ) (t : Turn) → WithinTurn sizes fixed claims t → Within claims (plain fixed (cut sizes n t))
+  within_turn n Finished within = tt
+  within_turn n (Trapped cause line) within = tt
+  within_turn n (Load array place go) within = within_told (fixed (word_number sizes array place)) (word_number sizes array place) (λ x. plain fixed (cut sizes 0 (go x))) within.0 (λ value can. within_turn 0 (go value) (within.1 value can))
+  within_turn n (Store array place value rest) within = (within.0, within_turn 0 rest within.1)
+  within_turn n (Op rest) within = subst (Within claims) (sym (plain_pausing fixed (is_full n) (cut sizes (one_more n) rest))) (within_turn (one_more n) rest within)
+  within_turn n (Go rest) within = within_turn 0 rest within
+
+  told_within : (o : Option ℤ) (w : ℕ) (f : ℤ → Tree) → Within claims (option_map_or f o (tree.Load w f)) → (o ≡ None → claims.read w ≡ true) × ((value : ℤ) → CanBeRead o value → Within claims (f value))
+  told_within None w f within = (λ none. within.0, λ value can. within.1 value)
+  told_within (Some old) w f within = (λ none. absurd (let no : Some old ≡ None = none in cc), λ value can. subst (λ x. Within claims (f x)) can within)
+
+  pub turn_within : (n : ℕ) (t : Turn) → Within claims (plain fixed (cut sizes n t)) → WithinTurn sizes fixed claims t
+  turn_within n Finished within = tt
+  turn_within n (Trapped cause line) within = tt
+  turn_within n (Load array place go) within =
+      let parts : (fixed (word_number sizes array place) ≡ None → claims.read (word_number sizes array place) ≡ true) × ((value : ℤ) → CanBeRead (fixed (word_number sizes array place)) value → Within claims (plain fixed (cut sizes 0 (go value)))) = told_within (fixed (word_number sizes array place)) (word_number sizes array place) (λ x. plain fixed (cut sizes 0 (go x))) within in
+      (parts.0, λ value can. turn_within 0 (go value) (parts.1 value can))
+  turn_within n (Store array place value rest) within = (within.0, turn_within 0 rest within.1)
+  turn_within n (Op rest) within = turn_within (one_more n) rest (subst (Within claims) (plain_pausing fixed (is_full n) (cut sizes (one_more n) rest)) within)
+  turn_within n (Go rest) within = turn_within 0 rest within
+
+pub within_turns : WithinTurnIsWithin
+within_turns sizes fixed claims t = (within_turn sizes fixed claims 0 t, turn_within sizes fixed claims 0 t)

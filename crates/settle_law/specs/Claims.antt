@@ -1,7 +1,7 @@
 -- Claims: the words that an iteration may read and those that it may write. Iterations whose claims don't clash are apart.
 use Rattle.std.specs.Prelude.{◌≡◌, ℕ, ◌⊎◌, ℤ, Bool, true, ◌||◌}
 use Rattle.settle_law.specs.Trees.{Tree, Finished, Trapped, Load, Store}
-use Rattle.settle_law.specs.Traces.{Apart}
+use Rattle.settle_law.specs.Traces.{Access, Read, Write, Apart}
 
 pub record Claims : Type 0 where
   pub read : ℕ → Bool
@@ -13,6 +13,11 @@ Within claims Finished = Unit {0}
 Within claims (Trapped cause line) = Unit {0}
 Within claims (Load w go) = (claims.read w ≡ true) × ((value : ℤ) → Within claims (go value))
 Within claims (Store w value rest) = (claims.written w ≡ true) × Within claims rest
+
+-- the claims cover the access
+abbrev pub Covers : Claims → Access → Type 0
+Covers claims (Read k w value) = claims.read w ≡ true
+Covers claims (Write k w value) = claims.written w ≡ true
 
 -- whether a word is claimed at all
 abbrev pub claimed : Claims → ℕ → Bool

@@ -1,6 +1,6 @@
 -- How a turn is cut into the stops at which a worker hands over: a read, a write, a pause, its end. Reads of `const`
 -- words are stops too; they and the pauses are gone in the plain tree.
-use Rattle.std.specs.Prelude.{◌≡◌, ℕ, zero, suc, ℤ, Bool, true, false, if◌then◌else◌, ◌==◌, Option, Some, None, List}
+use Rattle.std.specs.Prelude.{◌≡◌, ℕ, suc, ℤ, Bool, true, false, if◌then◌else◌, ◌==◌, Option, Some, None, List}
 use Rattle.std.specs.Option.{option_map_or}
 use Rattle.nest_syntax.specs.declared.names.Line.{Line}
 use Rattle.nest_syntax.specs.declared.operators.Cause.{Cause}
@@ -47,6 +47,10 @@ plain fixed (Trapped cause line) = tree.Trapped cause line
 plain fixed (Reads w go) = option_map_or (λ value. plain fixed (go value)) (fixed w) (tree.Load w (λ value. plain fixed (go value)))
 plain fixed (Writes w value rest) = tree.Store w value (plain fixed rest)
 plain fixed (Pauses rest) = plain fixed rest
+
+-- the plain tree of a turn
+abbrev pub plain_turn : List ℕ → (ℕ → Option ℤ) → Turn → Tree
+plain_turn sizes fixed t = plain fixed (cut sizes 0 t)
 
 -- the values that a read of a word may have: the one that is told, or any
 abbrev pub CanBeRead : Option ℤ → ℤ → Type 0

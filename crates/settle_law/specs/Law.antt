@@ -1,7 +1,7 @@
 -- The commuting law: what steps in any interleaving say of textual order. It holds for any family of trees, the tree of
 -- each iteration by its number, and any opening words. Behind the last iteration the family may be anything, as long as
 -- the trace has no access there.
-use Rattle.std.specs.Prelude.{◌≡◌, ℕ, zero, suc, ◌<◌, ◌≤◌, ◌⊎◌, ℤ, Option, Some, None, List, [], ◌∷◌, ◌++◌}
+use Rattle.std.specs.Prelude.{◌≡◌, ℕ, zero, suc, ◌<◌, ◌≤◌, ◌⊎◌, ℤ, Option, Some, List, [], ◌∷◌, ◌++◌}
 use Rattle.std.specs.Option.{option_and_then}
 use Rattle.nest_syntax.specs.declared.names.Line.{Line}
 use Rattle.nest_syntax.specs.declared.operators.Cause.{Cause}
@@ -55,6 +55,10 @@ FinishedPartsReach = (family : ℕ → Tree) (opening : List ℤ) (m : ℕ) (wor
 -- Where the parts up to n are finished and there is no other access, the trace settles to the words of textual order.
 abbrev pub FinishedPartsSettle : Type 0
 FinishedPartsSettle = (family : ℕ → Tree) (opening : List ℤ) (m : ℕ) (words : List ℤ) (trace : List Access) → Lawful family opening m words trace → (n : ℕ) → m ≤ n → FinishedParts family m n trace → Each (λ a. iteration a < n) trace → after family opening n ≡ Some (settle words trace)
+
+-- Where the parts up to n are finished, each of them is all that textual order makes there.
+abbrev pub FinishedPartsAreWhole : Type 0
+FinishedPartsAreWhole = (family : ℕ → Tree) (opening : List ℤ) (m : ℕ) (words : List ℤ) (trace : List Access) → Lawful family opening m words trace → (n : ℕ) → FinishedParts family m n trace → (k : ℕ) → m ≤ k → k < n → (reached : List ℤ) × (after family opening k ≡ Some reached) × (part k trace ≡ accesses k (family k) reached)
 
 -- Where the part of n is trapped behind finished ones, textual order gets to n and traps there in the same way. Where
 -- there is no access of a later iteration, the trace settles to the words of that trap.

@@ -4,11 +4,11 @@
 //! `specs/` has the definitions on which engines are built: trees, cut turns, traces, claims, pieces of work, courses.
 #![tactic(auto)]
 
-ghost use Rattle.settle_law.specs.Law.{PartsAreTextual, FinishedPartsReach, FinishedPartsSettle, TrappedPartIsTextual};
+ghost use Rattle.settle_law.specs.Law.{PartsAreTextual, FinishedPartsReach, FinishedPartsSettle, FinishedPartsAreWhole, TrappedPartIsTextual};
 ghost use Rattle.settle_law.specs.Claims.{ClaimsPartIterations};
 ghost use Rattle.settle_law.specs.Tasks.{StopsTell, PiecesBegin};
 ghost use Rattle.settle_law.specs.Courses.{EventsTell, CursorsBegin, TrappedIterationIsOutcome};
-ghost use Rattle.settle_law.specs.Reading.{TurnIsTree, AccessesAreTree, ReadsAreMade, MadeIsRead, ReadsApartAreApart, ReachedIsAfter, AfterIsReached, ProgramIsNest};
+ghost use Rattle.settle_law.specs.Reading.{TurnIsTree, AccessesAreTree, ReadsAreMade, MadeIsRead, ReadsApartAreApart, ReadsWithinAreWithin, WithinTurnIsWithin, InsideTurnsTell, TellingTurnsKeep, FollowedNestsKeep, RealisedTurnsKeep, ReachedIsAfter, AfterIsReached, ProgramIsNest, ProgramAccesses};
 
 /// In a trace that keeps the law's premises each part agrees with textual order, as far as textual order gets: it is
 /// what the iteration makes first there, and it is finished or trapped only where the iteration is.
@@ -27,6 +27,11 @@ pub fn finished_parts_settle()
     ensures { FinishedPartsSettle }
 {}
 
+/// Where the parts up to an iteration are finished, each is all that textual order makes there.
+pub fn finished_parts_are_whole()
+    ensures { FinishedPartsAreWhole }
+{}
+
 /// Where a part is trapped behind finished ones, textual order traps there in the same way.
 pub fn trapped_part_is_textual()
     ensures { TrappedPartIsTextual }
@@ -40,14 +45,12 @@ pub fn claims_part_iterations()
 /// The stop at which a piece stands says what its iteration still has to do behind it.
 pub fn stops_tell<P>()
     ensures { StopsTell P }
-{
-}
+{}
 
 /// A piece that realises a cut turn has all of it left to do.
 pub fn pieces_begin<P>()
     ensures { PiecesBegin P }
-{
-}
+{}
 
 /// A turn on the words ends as its plain tree does.
 pub fn turn_is_tree()
@@ -69,9 +72,39 @@ pub fn made_is_read()
     ensures { MadeIsRead }
 {}
 
-/// Turns that are apart on all lists of reads have plain trees that are apart.
+/// Turns are apart on all lists of reads exactly where their plain trees are apart.
 pub fn reads_apart_are_apart()
     ensures { ReadsApartAreApart }
+{}
+
+/// Claims cover what a turn makes on all lists of reads exactly where they hold its plain tree.
+pub fn reads_within_are_within()
+    ensures { ReadsWithinAreWithin }
+{}
+
+/// Claims hold a turn exactly where they hold its plain tree.
+pub fn within_turn_is_within()
+    ensures { WithinTurnIsWithin }
+{}
+
+/// Of a turn that stays inside its arrays, the opening words tell rightly which words are `const`.
+pub fn inside_turns_tell()
+    ensures { InsideTurnsTell }
+{}
+
+/// A turn of which the `const` words are told rightly writes none of them.
+pub fn telling_turns_keep()
+    ensures { TellingTurnsKeep }
+{}
+
+/// A turn whose cut turn is realised writes no `const` word.
+pub fn realised_turns_keep<P>()
+    ensures { RealisedTurnsKeep P }
+{}
+
+/// A nest whose course a cursor follows, with pieces that realise its cut turns, keeps its `const` words.
+pub fn followed_nests_keep<B, C, P>()
+    ensures { FollowedNestsKeep B C P }
 {}
 
 /// The words that a nest reaches in textual order are those of the law for its family.
@@ -84,25 +117,27 @@ pub fn after_is_reached()
     ensures { AfterIsReached }
 {}
 
-/// A program's nest reaches the words of the program, and has its outcome.
+/// A program's nest has the turns, the events and the outcome of the program, and reaches its words.
 pub fn program_is_nest()
     ensures { ProgramIsNest }
+{}
+
+/// The accesses of a program's iterations in textual order are those of the law for its nest.
+pub fn program_accesses()
+    ensures { ProgramAccesses }
 {}
 
 /// The event at which a cursor stands says what of the nest lies behind it.
 pub fn events_tell<B, C>()
     ensures { EventsTell B C }
-{
-}
+{}
 
 /// A cursor that follows the course of a nest has all of it before it.
 pub fn cursors_begin<B, C>()
     ensures { CursorsBegin B C }
-{
-}
+{}
 
 /// An iteration that traps where textual order reaches it is the outcome.
 pub fn trapped_iteration_is_outcome()
     ensures { TrappedIterationIsOutcome }
-{
-}
+{}

@@ -1,0 +1,5 @@
+use Rattle.domore_core.proofs.Runs.{invariant_holds}
+use Rattle.domore_core.proofs.histories_keep_invariant.Goals as goal
+
+pub returns : goal.returns
+returns g c = λ m nest tree start setup history s leads. invariant_holds m nest tree start setup history s leads

@@ -1,0 +1,5 @@
+use Rattle.settle_law.proofs.Cursors.{followed_keeps}
+use Rattle.settle_law.proofs.followed_nests_keep.Goals as goal
+
+pub returns : goal.returns
+returns g c = λ sys nest tree entry event cursor begins follows. followed_keeps sys nest tree entry event cursor begins follows
