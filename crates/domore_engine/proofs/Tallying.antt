@@ -6,7 +6,7 @@ use Rattle.std.specs.List.{count_by}
 use Rattle.progress_board.specs.declared.facts.Facts.{Facts as Report}
 use Rattle.progress_board.specs.declared.facts.Wait.{Wait as Place}
 use Rattle.domore_core.specs.Waits.{Wait}
-use Rattle.domore_core.specs.Facts.{Facts, Listed, listed_as, iterated}
+use Rattle.domore_core.specs.Facts.{Facts, Listed, listed_at, iterated}
 use Rattle.domore_engine.specs.Reports.{wait_of, places_of, report_of}
 use Rattle.domore_engine.specs.Tallies.{Tallied, listed_in, tallied, IsTallied, with_wait, with_waits}
 

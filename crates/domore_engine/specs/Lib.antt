@@ -5,3 +5,5 @@ pub mod Stages
 pub mod Tallies
 pub mod Shadows
 pub mod Tables
+pub mod Kept
+pub mod Laws

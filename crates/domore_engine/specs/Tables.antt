@@ -1,9 +1,9 @@
 -- The state of the abstract machine that a table holds, and what the table keeps besides.
-use Rattle.std.specs.Prelude.{◌≡◌, ℕ, ◌+◌, ◌*◌, ◌≤◌, ◌<◌, length}
+use Rattle.std.specs.Prelude.{◌≡◌, ℕ, ◌+◌, ◌*◌, ◌≤◌, ◌<◌, [], length}
 use Rattle.nest_syntax.specs.declared.tree.Program.{Program}
 use Rattle.nest_syntax.specs.FirstForm.{First}
 use Rattle.nest_syntax.specs.Arrays.{arrays_of, sizes_of}
-use Rattle.domore_core.specs.Machine.{State}
+use Rattle.domore_core.specs.Machine.{State, Seat, Idle}
 use Rattle.domore_core.specs.Facts.{Facts}
 use Rattle.first_tasks.specs.declared.position.Iteration.{Iteration}
 use Rattle.first_tasks.specs.declared.position.Position.{Position}
@@ -56,3 +56,7 @@ pub record IsSame (old new : Table) : Type 0 where
   pub sizes : new.words.sizes ≡ old.words.sizes
   pub tally : new.tally ≡ old.tally
   pub shadow : new.shadow ≡ old.shadow
+
+-- a worker at the opening
+abbrev pub idle_seat : Seat Iteration Piece
+idle_seat = record { hand = Idle; queue = []; done = 0 }

@@ -4,7 +4,7 @@ use Rattle.progress_board.specs.declared.options.Options.{Options}
 use Rattle.progress_board.specs.declared.facts.Facts.{Facts as Report}
 use Rattle.progress_board.specs.declared.facts.Wait.{Wait as Place}
 use Rattle.domore_core.specs.Waits.{Wait}
-use Rattle.domore_core.specs.Facts.{Facts, Listed, listed_as}
+use Rattle.domore_core.specs.Facts.{Facts, Listed, listed_at}
 use Rattle.domore_engine.specs.Reports.{report_of}
 
 -- the facts of a run, for these options
@@ -33,7 +33,7 @@ abbrev pub with_wait : Facts → Wait → Facts
 with_wait facts w = record facts {
   waits = suc facts.waits;
   crossing = facts.crossing + (if nat_lt w.number facts.first then 1 else 0);
-  listed = take 64 (facts.listed ++ listed_as facts w ∷ []);
+  listed = take 64 (facts.listed ++ listed_at facts.iterations facts.first w ∷ []);
 }
 
 abbrev pub with_waits : Facts → List Wait → Facts

@@ -4,9 +4,13 @@
 //! worker carries out its own. It is the abstract machine of `domore_core`, on the iterations of `first_tasks`.
 #![tactic(auto)]
 
+mod domore;
 mod hand;
+mod machine;
 mod memory;
+mod noting;
 mod rows;
+mod scheduler;
 mod seat;
 mod shadow;
 mod stage;
@@ -16,3 +20,5 @@ mod tally;
 mod tasks;
 mod ticket;
 mod wait;
+
+pub use domore::Domore;

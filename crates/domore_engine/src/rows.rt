@@ -6,7 +6,10 @@ ghost use Rattle.first_tasks.specs.Form.{first_of, first_form};
 ghost use Rattle.first_tasks.specs.Positions.{event_at};
 ghost use Rattle.first_tasks.specs.Setups.{setup};
 ghost use Rattle.domore_engine.specs.Engine.{row_of};
-ghost use Rattle.domore_engine.specs.Stages.{stage_of, stage_row, standing_in};
+ghost use Rattle.domore_engine.specs.Stages.{stage_of, stage_row, standing_in, number_at};
+ghost use Rattle.std.specs.List.{list_all};
+ghost use Rattle.first_tasks.specs.declared.position.Iteration.{Iteration as Body};
+ghost use Rattle.first_tasks.specs.Pieces.{Piece as Done};
 ghost use Rattle.domore_engine.specs.Tables.{state_of};
 
 use crate::seat::Seat;
@@ -118,6 +121,31 @@ impl Table {
     {
         let own = (self.next % self.seats.len() as u64) as usize;
         if self.seats[own].tickets() < room as usize { Some(Row::Dispatch) } else { None }
+    }
+
+    /// The number of the iteration that a worker holds, and else of its first ticket.
+    pub(crate) fn number(&self, worker: u8) -> u64
+        ensures { worker < length self.now.seats.items → result ≡ number_at (machine.seat_at self.now.seats.items worker) }
+    {
+        match self.seats.get(worker as usize) {
+            Some(seat) => seat.number(),
+            None => 0,
+        }
+    }
+
+    pub(crate) fn is_gone(&self, worker: u8) -> bool
+        ensures { result ≡ machine.is_gone (machine.seat_at self.now.seats.items worker).hand }
+    {
+        match self.seats.get(worker as usize) {
+            Some(seat) => seat.is_gone(),
+            None => true,
+        }
+    }
+
+    pub(crate) fn all_gone(&self) -> bool
+        ensures { result ≡ list_all (λ (s : machine.Seat Body Done). machine.is_gone s.hand) self.now.seats.items }
+    {
+        self.seats.iter().all(|seat| seat.is_gone())
     }
 
     // A number is above the trap where a trap is kept and its number is less.

@@ -1,4 +1,4 @@
-ghost use Rattle.std.specs.Prelude.{◌≡◌, ◌<◌, ◌++◌, ℕ, ℤ, suc, false, true, List, [], ◌∷◌, Some, length, slice_set};
+ghost use Rattle.std.specs.Prelude.{◌≡◌, ◌<◌, ◌++◌, ℕ, ℤ, suc, false, true, List, [], ◌∷◌, Some, None, IfSome, length, slice_set};
 ghost use Rattle.std.specs.Option.{option_map};
 ghost use Rattle.nest_syntax.specs.declared.names.Line.{Line as At};
 ghost use Rattle.nest_syntax.specs.declared.operators.Cause.{Cause as Why};
@@ -10,7 +10,7 @@ ghost use Rattle.domore_core.specs.Waits.{Wait as On};
 ghost use Rattle.first_tasks.specs.declared.position.Iteration.{Iteration as Body};
 ghost use Rattle.first_tasks.specs.Form.{first_of, first_form};
 ghost use Rattle.first_tasks.specs.Pieces.{Piece as Done, entry, stop_of};
-ghost use Rattle.first_tasks.specs.Stops.{stop_told};
+ghost use Rattle.first_tasks.specs.Stops.{stop_told, IsPossible};
 ghost use Rattle.first_tasks.specs.Setups.{setup};
 ghost use Rattle.domore_engine.specs.Engine.{row_of, Row_data};
 ghost use Rattle.domore_engine.specs.Tables.{state_of, IsSame};
@@ -104,15 +104,56 @@ impl Table {
         ensures same { IsSame self.old self.new }
     {
         let size = parts_in(program).length;
-        let seat = &mut self.seats[worker as usize];
-        match seat.stop(program) {
-            Some(Stop::Load(word)) => seat.read(word_at(&self.words, word, size)),
-            Some(Stop::Store(word, value)) => {
-                set_word(&mut self.words, word, value, size);
-                seat.store();
+        match self.stop(program, worker) {
+            Some(Stop::Load(word)) => {
+                let value = self.word(word, size);
+                self.read(worker, value);
             }
+            Some(Stop::Store(word, value)) => self.store(worker, word, value, size),
             _ => {}
         }
+    }
+
+    // The stop of the held iteration.
+    fn stop(&self, program: &Program, worker: u8) -> Option<Stop>
+        requires form { IsFirstForm program.now }
+        requires own { worker < length self.now.seats.items }
+        ensures is { (k : ℕ) (p : Done) → (machine.seat_at self.now.seats.items worker).hand ≡ machine.Holding k [] p → result ≡ stop_told (stop_of (first_form program.now) p) }
+        ensures possible { (k : ℕ) (left : List On) (p : Done) → (machine.seat_at self.now.seats.items worker).hand ≡ machine.Holding k left p → IfSome result (IsPossible (first_of (first_form program.now)).length 13 (length p.reads)) }
+        ensures idle { (machine.seat_at self.now.seats.items worker).hand ≡ machine.Idle → result ≡ None }
+        ensures gone { (machine.seat_at self.now.seats.items worker).hand ≡ machine.Gone → result ≡ None }
+    {
+        self.seats[worker as usize].stop(program)
+    }
+
+    fn word(&self, word: u32, size: u64) -> i64
+        requires sizes { self.now.words.sizes ≡ size ∷ [] }
+        requires inside { word < size }
+        ensures { result ≡ word_at self.now.words.words word }
+    {
+        word_at(&self.words, word, size)
+    }
+
+    fn read(&mut self, worker: u8, word: i64)
+        requires own { worker < length self.old.seats.items }
+        requires few { (k : ℕ) (left : List On) (p : Done) → (machine.seat_at self.old.seats.items worker).hand ≡ machine.Holding k left p → length p.reads < 13 }
+        ensures state { (k : ℕ) (left : List On) (p : Done) → (machine.seat_at self.old.seats.items worker).hand ≡ machine.Holding k left p
+            → state_of self.new ≡ record (state_of self.old) { seats = slice_set self.old.seats.items worker (record (machine.seat_at self.old.seats.items worker) { hand = machine.Holding k left (record p { reads = p.reads ++ word ∷ [] }) }) } }
+        ensures same { IsSame self.old self.new }
+    {
+        self.seats[worker as usize].read(word);
+    }
+
+    fn store(&mut self, worker: u8, word: u32, value: i64, size: u64)
+        requires own { worker < length self.old.seats.items }
+        requires sizes { self.old.words.sizes ≡ size ∷ [] }
+        requires inside { word < size }
+        ensures state { (k : ℕ) (left : List On) (p : Done) → (machine.seat_at self.old.seats.items worker).hand ≡ machine.Holding k left p
+            → state_of self.new ≡ record (state_of self.old) { words = with_word self.old.words.words word value; seats = slice_set self.old.seats.items worker (record (machine.seat_at self.old.seats.items worker) { hand = machine.Holding k left (record p { stored = true }) }) } }
+        ensures same { IsSame self.old self.new }
+    {
+        set_word(&mut self.words, word, value, size);
+        self.seats[worker as usize].store();
     }
 
     // The trap with the least number of the old and the new one is kept.
@@ -123,16 +164,15 @@ impl Table {
             → state_of self.new ≡ record (state_of self.old) { trap = Some (machine.least_trap self.old.trap (place_of_trap cause line k false)); seats = slice_set self.old.seats.items worker (record (machine.seat_at self.old.seats.items worker) { hand = machine.Idle }) } }
         ensures same { IsSame self.old self.new }
     {
-        let seat = &mut self.seats[worker as usize];
-        if let Some(Stop::Trap(cause, line)) = seat.stop(program) {
+        if let Some(Stop::Trap(cause, line)) = self.stop(program, worker) {
             let place = Place {
                 cause,
                 line,
-                number: seat.number(),
+                number: self.seats[worker as usize].number(),
                 by_scheduler: false,
             };
             self.trap = Some(least_trap(self.trap, place));
-            seat.leave();
+            self.seats[worker as usize].leave();
         }
     }
 }
