@@ -7,4 +7,5 @@ pub mod Held
 pub mod Room
 pub mod Sound
 pub mod Bodies
+pub mod Turns
 pub mod Clashes

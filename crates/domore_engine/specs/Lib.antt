@@ -1,0 +1,9 @@
+pub mod Engine
+pub mod Reports
+pub mod Hands
+pub mod Stages
+pub mod Tallies
+pub mod Shadows
+pub mod Tables
+pub mod Kept
+pub mod Laws

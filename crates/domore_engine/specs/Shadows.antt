@@ -1,0 +1,30 @@
+-- The last accesses: for each word and each worker, the greatest iterations of it that claim the word for reading and for
+-- writing.
+use Rattle.std.specs.Prelude.{◌≡◌, ℕ, zero, suc, ◌+◌, ◌*◌, ◌%◌, ◌<◌, ◌≤◌, Bool, true, false, ◌&&◌, ◌==◌, if◌then◌else◌, Option, Some, None, List, length, slice_index_or}
+use Rattle.nest_syntax.specs.declared.tree.Program.{Program}
+use Rattle.addr_slice.specs.Claims.{has, no_claims, with_claims, words_of}
+use Rattle.first_tasks.specs.Form.{first_of}
+use Rattle.first_tasks.specs.Claims.{claims_numbered}
+use Rattle.domore_engine.specs.declared.shadow.Shadow.{Shadow}
+
+-- the greatest number below n that passes a test
+abbrev pub greatest : (ℕ → Bool) → ℕ → Option ℕ
+greatest passes zero = None
+greatest passes (suc n) = if passes n then Some n else greatest passes n
+
+-- whether iteration j claims a word for writing, or for reading
+abbrev pub claims_word : Program → ℕ → ℕ → Bool → Bool
+claims_word program j word write = has (with_claims (no_claims (first_of program).length) (claims_numbered program j)) word write
+
+-- the last iteration below n of worker u that claims the word so
+abbrev pub last_access : Program → (width u word : ℕ) → Bool → ℕ → Option ℕ
+last_access program width u word write n = greatest (λ j. (j % width == u) && claims_word program j word write) n
+
+-- the table holds the last accesses below n
+pub record IsNoted (program : Program) (width n : ℕ) (shadow : Shadow) : Type 0 where
+  pub room : (first_of program).length ≤ words_of shadow.claims
+  pub width_is : shadow.workers ≡ width
+  pub reads : (word u : ℕ) → word < (first_of program).length → u < width → slice_index_or shadow.reads.items (word * width + u) None ≡ last_access program width u word false n
+  pub writes : (word u : ℕ) → word < (first_of program).length → u < width → slice_index_or shadow.writes.items (word * width + u) None ≡ last_access program width u word true n
+  pub read_places : length shadow.reads.items ≡ (first_of program).length * width
+  pub write_places : length shadow.writes.items ≡ (first_of program).length * width

@@ -1,0 +1,24 @@
+//! The engine that keeps textual order without a barrier, for programs of the first form.
+//!
+//! In come a job and options, out comes a machine: a scheduler hands iterations out with what they wait for, and each
+//! worker carries out its own. It is the abstract machine of `domore_core`, on the iterations of `first_tasks`.
+#![tactic(auto)]
+
+mod domore;
+mod hand;
+mod machine;
+mod memory;
+mod noting;
+mod rows;
+mod scheduler;
+mod seat;
+mod shadow;
+mod stage;
+mod steps;
+mod table;
+mod tally;
+mod tasks;
+mod ticket;
+mod wait;
+
+pub use domore::Domore;

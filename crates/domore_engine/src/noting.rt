@@ -1,0 +1,130 @@
+ghost use Rattle.std.specs.Prelude.{◌≡◌, ◌<◌, ◌≤◌, ◌%◌, ℕ, suc, length, IfOk};
+ghost use Rattle.nest_syntax.specs.FirstForm.{IsFirstForm};
+ghost use Rattle.domore_core.specs.Waits.{waits_of};
+ghost use Rattle.first_tasks.specs.Form.{first_of, first_form};
+ghost use Rattle.first_tasks.specs.Iterations.{iteration_numbered};
+ghost use Rattle.first_tasks.specs.Claims.{clashes};
+ghost use Rattle.nest_syntax.specs.declared.tree.Program.{Program as Code};
+ghost use Rattle.domore_engine.specs.Shadows.{IsNoted};
+
+use crate::shadow::Shadow;
+use crate::tasks::claim;
+use crate::wait::Wait;
+use addr_slice::Claims;
+use arrayvec::ArrayVec;
+use first_tasks::Iteration;
+use nest_syntax::{NoMemory, Program};
+use std::alloc::Global;
+
+impl Shadow {
+    /// Nothing is noted yet, of the words of an array of this length.
+    pub(crate) fn open(alloc: Global, length: u64, workers: u8) -> Result<Shadow, NoMemory>
+        requires words { length ≤ 1048576 }
+        requires few { workers ≤ 8 }
+        ensures { (program : Code) → (first_of program).length ≡ length → IfOk result (λ made. IsNoted program workers 0 made) }
+    {
+        let places = length as usize * workers as usize;
+        Ok(Shadow {
+            claims: Claims::with_room(alloc, &[length])?,
+            workers,
+            reads: vec![in alloc; None; places]?,
+            writes: vec![in alloc; None; places]?,
+        })
+    }
+
+    /// The waits of the next iteration, whose claims are then noted.
+    pub(crate) fn hand_out(&mut self, program: &Program, iteration: Iteration, number: u64) -> ArrayVec<Wait, 8>
+        requires form { IsFirstForm program.now }
+        requires few { self.old.workers ≤ 8 }
+        requires some { 0 < self.old.workers }
+        requires next { iteration ≡ iteration_numbered (first_of (first_form program.now)) number }
+        requires noted { IsNoted (first_form program.now) self.old.workers number self.old }
+        ensures waits { result.items ≡ waits_of (clashes (first_form program.now)) self.old.workers number }
+        ensures noted { IsNoted (first_form program.now) self.old.workers (suc number) self.new }
+        ensures workers { self.new.workers ≡ self.old.workers }
+    {
+        claim(program, iteration, &mut self.claims);
+        let waits = self.waits(number);
+        self.note(number);
+        waits
+    }
+
+    // What the iteration with these claims waits for, on each other worker in their order.
+    fn waits(&self, number: u64) -> ArrayVec<Wait, 8>
+        requires few { self.now.workers ≤ 8 }
+        requires some { 0 < self.now.workers }
+        ensures length { length result.items ≤ 8 }
+    {
+        let own = (number % self.workers as u64) as u8;
+        let mut waits = ArrayVec::new();
+        for worker in 0..self.workers {
+            if worker == own {
+                continue;
+            }
+            if let Some(last) = self.need(worker) {
+                waits.push(Wait {
+                    worker,
+                    number: last,
+                });
+            }
+        }
+        waits
+    }
+
+    // The greatest iteration of a worker whose claims clash with those that are there.
+    fn need(&self, worker: u8) -> Option<u64>
+    {
+        let mut need = None;
+        let mut from = 0;
+        while let Some(word) = self.claims.next_from(from) {
+            need = later(need, self.last_clash(word, worker));
+            from = word + 1;
+        }
+        need
+    }
+
+    // The last of its iterations that clashes at a word that is claimed.
+    fn last_clash(&self, word: u32, worker: u8) -> Option<u64>
+    {
+        let at = word as usize * self.workers as usize + worker as usize;
+        let write = self.writes.get(at).copied().flatten();
+        if self.claims.has(word, true) {
+            later(write, self.reads.get(at).copied().flatten())
+        } else {
+            write
+        }
+    }
+
+    // Notes the claims that are there as those of an iteration.
+    fn note(&mut self, number: u64)
+        requires { 0 < self.old.workers }
+    {
+        let own = (number % self.workers as u64) as usize;
+        let mut from = 0;
+        while let Some(word) = self.claims.next_from(from) {
+            let at = word as usize * self.workers as usize + own;
+            if self.claims.has(word, false) {
+                put_at(&mut self.reads, at, number);
+            }
+            if self.claims.has(word, true) {
+                put_at(&mut self.writes, at, number);
+            }
+            from = word + 1;
+        }
+    }
+}
+
+fn put_at(places: &mut [Option<u64>], at: usize, number: u64) {
+    if at < places.len() {
+        places[at] = Some(number);
+    }
+}
+
+// The greater of two, where there are two.
+fn later(first: Option<u64>, second: Option<u64>) -> Option<u64> {
+    match (first, second) {
+        (Some(first), Some(second)) => Some(first.max(second)),
+        (Some(first), None) => Some(first),
+        (None, second) => second,
+    }
+}
