@@ -1,2 +1,3 @@
 pub mod Replies
+pub mod Textual
 pub mod Written

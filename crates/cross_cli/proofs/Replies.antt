@@ -11,14 +11,18 @@ use Rattle.nest_syntax.specs.Arrays.{arrays_of, sizes_of}
 use Rattle.cross_cli.specs.declared.status.Status.TheVariants as status
 use Rattle.cross_cli.specs.declared.top.Unanswered.{Unanswered}
 use Rattle.cross_cli.specs.declared.words.Action.{Action}
-use Rattle.cross_cli.specs.declared.words.Action.TheVariants.{Plain}
-use Rattle.cross_cli.specs.Answers.{Answer, refusal, acted, zeros_of, AnswersInput, too_long, no_text, a_text}
+use Rattle.cross_cli.specs.declared.words.Action.TheVariants.{Plain, Alone}
+use Rattle.cross_cli.specs.Answers.{Answer, refusal, acted, zeros_of, job_of, AnswersInput, too_long, no_text, a_text}
 use Rattle.cross_cli.specs.Ends.{TakesInput, IsDueTo}
 
--- the one action, on the job that was made of a program
-pub acted_by : (r : Result Answer NoMemory) (action : Action) (program : Program) (nest : Nest) → nest ≡ record { program = program; opening = zeros (sizes_of (arrays_of program.decls)) } → IfOk r (λ reply. reply ≡ acted Plain nest.program nest.opening.words) → IfOk r (λ reply. reply ≡ acted action program (zeros_of program))
-acted_by (Ok reply) Plain program nest is h = h ∙ ap (λ (n : Nest). acted Plain n.program n.opening.words) is
-acted_by (Err e) Plain program nest is h = tt
+-- an action on the job that was made of a program
+pub acted_by : (r : Result Answer NoMemory) (action : Action) (program : Program) (nest : Nest) → nest ≡ record { program = program; opening = zeros (sizes_of (arrays_of program.decls)) } → IfOk r (λ reply. reply ≡ acted action nest.program nest.opening.words) → IfOk r (λ reply. reply ≡ acted action program (zeros_of program))
+acted_by (Ok reply) action program nest is h = h ∙ ap (λ (n : Nest). acted action n.program n.opening.words) is
+acted_by (Err e) action program nest is h = tt
+
+-- that job has the sizes of its program
+pub own_job : (program : Program) (nest : Nest) → nest ≡ record { program = program; opening = zeros (sizes_of (arrays_of program.decls)) } → nest ≡ job_of nest.program nest.opening.words
+own_job program nest is = subst (λ (n : Nest). n ≡ job_of n.program n.opening.words) (sym is) refl
 
 -- the answer to a text of the first form
 pub text_answered : (r : Result Answer NoMemory) (action : Action) (input : List ℕ) (program : Program) → length input ≤ MOST_BYTES → IsFirst input program → ((other : Program) → IsFirst input other → program ≡ other) → IfOk r (λ reply. reply ≡ acted action program (zeros_of program)) → IfOk r (λ reply. AnswersInput action input reply)

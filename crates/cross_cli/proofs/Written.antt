@@ -1,5 +1,5 @@
 -- How a call ends, by its status.
-use Rattle.std.proofs.Common.{◌≡◌, ◌≢◌, ℕ, ◌<◌, List, length, Option, Some, None, refl, sym, subst}
+use Rattle.std.proofs.Common.{◌≡◌, ◌≢◌, ℕ, ◌<◌, ℤ, List, length, Option, Some, None, refl, sym, subst}
 use Rattle.std.specs.Io.KnownBytes.{Keeps, Appends}
 use Rattle.nest_io.specs.Stream.{AppendsPart}
 use Rattle.nest_syntax.specs.Outcome.{Ending, Done, TrappedAt}
@@ -7,9 +7,10 @@ use Rattle.nest_syntax.specs.declared.tree.Program.{Program}
 use Rattle.cross_cli.specs.declared.status.Status.{Status}
 use Rattle.cross_cli.specs.declared.status.Status.TheVariants as status
 use Rattle.cross_cli.specs.declared.words.Action.{Action}
-use Rattle.cross_cli.specs.declared.words.Action.TheVariants.{Plain}
+use Rattle.cross_cli.specs.declared.words.Action.TheVariants.{Plain, Alone}
+use Rattle.nest_mean.specs.Nest.{Nest}
 use Rattle.cross_cli.specs.Words.{action_of}
-use Rattle.cross_cli.specs.Answers.{Answer, AnswersInput, printed, too_long, no_text, a_text}
+use Rattle.cross_cli.specs.Answers.{Answer, AnswersInput, printed, reported, acted, too_long, no_text, a_text}
 use Rattle.cross_cli.specs.Ends.{IsDue, IsDueTo, Ends}
 
 -- what is untold or told is kept where nothing happens
@@ -31,13 +32,18 @@ printed_answers : (program : Program) (e : Ending) → IsAnswering (printed prog
 printed_answers program (Done words) = tt
 printed_answers program (TrappedAt place) = tt
 
-acted_answers : (action : Action) (program : Program) (e : Ending) → IsAnswering (printed program e).status
-acted_answers Plain program e = printed_answers program e
+reported_answers : (job : Nest) (e : Ending) → IsAnswering (reported job e).status
+reported_answers job (Done words) = tt
+reported_answers job (TrappedAt place) = tt
+
+acted_answers : (action : Action) (program : Program) (words : List ℤ) → IsAnswering (acted action program words).status
+acted_answers Plain program words = printed_answers program _
+acted_answers Alone program words = reported_answers _ _
 
 input_answers : (action : Action) (input : List ℕ) (answer : Answer) → AnswersInput action input answer → IsAnswering answer.status
 input_answers action input answer (too_long long) = tt
 input_answers action input answer (no_text few none) = tt
-input_answers Plain input answer (a_text few program first only) = acted_answers Plain program _
+input_answers action input answer (a_text few program first only) = acted_answers action program _
 
 due_answers : (action : Option Action) (old new : Option (List ℕ)) (answer : Answer) → IsDueTo action old new answer → IsAnswering answer.status
 due_answers None old new answer due = subst (λ (a : Answer). IsAnswering a.status) (sym due.1) tt

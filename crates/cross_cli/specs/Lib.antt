@@ -1,4 +1,5 @@
 pub mod Words
-pub mod Answers
-pub mod Ends
 pub mod Report
+pub mod Answers
+pub mod Told
+pub mod Ends

@@ -5,6 +5,7 @@ ghost use Rattle.nest_syntax.specs.Arrays.{arrays_of, sizes_of};
 ghost use Rattle.nest_mean.specs.Outcomes.{outcome, as_outcome};
 ghost use Rattle.cross_cli.specs.Answers.{refusal, printed, acted, zeros_of, AnswersInput};
 
+use crate::alone::alone;
 use crate::status::Status;
 use crate::words::Action;
 use nest_mean::{Job, Outcome, run_plain};
@@ -63,6 +64,7 @@ fn act(alloc: Global, action: Action, program: Program) -> Result<Reply, NoMemor
     let job = Job::first(alloc, program)?;
     match action {
         Action::Plain => plain(alloc, &job),
+        Action::Alone => alone(alloc, job),
     }
 }
 

@@ -3,6 +3,7 @@
 //! `cross_quiet` is the top call, over any source and sink; `main` gives it the real streams.
 #![tactic(auto)]
 
+mod alone;
 mod answers;
 mod laws;
 mod report;

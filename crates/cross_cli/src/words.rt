@@ -1,11 +1,13 @@
 ghost use Rattle.std.specs.Prelude.{◌≡◌, map, string_bytes};
-ghost use Rattle.cross_cli.specs.Words.{action_of};
+ghost use Rattle.cross_cli.specs.Words.{action_of, action_named};
 
 /// What the program is asked to do.
 #[derive(Clone, Copy, Debug, PartialEq, Eq)]
 pub enum Action {
     /// Runs the nest in textual order and prints its outcome.
     Plain,
+    /// Runs the engine `domore` on one thread, and prints outcome and report.
+    Alone,
 }
 
 /// The action that the command words ask for. None comes exactly where they aren't in the table.
@@ -13,7 +15,19 @@ pub fn action_of(words: &[String]) -> Option<Action>
     ensures { result ≡ action_of (map string_bytes words.now) }
 {
     match words {
-        [word] if word.as_str() == "plain" => Some(Action::Plain),
+        [word] => action_named(word.as_str()),
         _ => None,
+    }
+}
+
+fn action_named(word: &str) -> Option<Action>
+    ensures { result ≡ action_named word.now }
+{
+    if word == "plain" {
+        Some(Action::Plain)
+    } else if word == "alone" {
+        Some(Action::Alone)
+    } else {
+        None
     }
 }
