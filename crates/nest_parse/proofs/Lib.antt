@@ -7,3 +7,5 @@ pub mod Equations
 pub mod Counts
 pub mod Names
 pub mod Whole
+pub mod Quiet
+pub mod Complete

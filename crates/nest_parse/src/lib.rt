@@ -11,7 +11,7 @@ mod refused;
 mod text;
 
 pub use first::parse_first;
-pub use refused::FirstRefused;
+pub use refused::{FirstRefused, ParseRefused};
 
 #[cfg(test)]
 mod tests;

@@ -1,0 +1,141 @@
+-- What may come next: a list of what is expected, and where tokens don't go on with it. No caller of `parse` needs this.
+use Rattle.std.specs.Prelude.{ℕ, zero, suc, Bool, true, false, ◌&&◌, ◌==◌, nat_le, if◌then◌else◌, Option, Some, None, is_some, List, [], ◌∷◌}
+use Rattle.nest_syntax.specs.declared.operators.Un.{Un}
+use Rattle.nest_syntax.specs.declared.operators.Bin.{Bin}
+use Rattle.nest_lex.specs.declared.token.Keyword.{Keyword}
+use Rattle.nest_lex.specs.declared.token.Keyword.TheVariants as word
+use Rattle.nest_lex.specs.declared.token.Mark.{Mark}
+use Rattle.nest_lex.specs.declared.token.Mark.TheVariants as mark
+use Rattle.nest_lex.specs.declared.token.Kind.{Kind}
+use Rattle.nest_lex.specs.declared.token.Kind.TheVariants as kind
+use Rattle.nest_lex.specs.declared.token.Token.{Token}
+use Rattle.nest_lex.specs.contracts.token.Mark.{the_type as mark_type}
+use Rattle.nest_lex.specs.contracts.token.Keyword.{the_type as keyword_type}
+use denote.Enum.Bare.{sameb}
+use Rattle.nest_parse.specs.Grammar.{greatest, binary, unary, assignment, comparison}
+
+pub data Item : Type 0 where
+  This : Mark → Item
+  Word : Keyword → Item
+  ThisName : ℕ → Item
+  AnyName : Item
+  AnyNumber : Item
+  Factor : Item
+  Subscript : Item
+  Tail : ℕ → Item
+  Choice : Item
+  Compare : Item
+  Assigns : Item
+  Statements : Item
+  Elses : Item
+  BehindElse : Item
+  LoopName : Item
+  Step : ℕ → Item
+  StepTail : Item
+  Decls : Item
+  DeclTail : Item
+  Signed : Item
+  Loops : Item
+
+-- an expression of a level, any expression, a block, and a loop, before what is expected behind it
+abbrev pub level_then : ℕ → List Item → List Item
+level_then zero k = Factor ∷ k
+level_then (suc d) k = level_then d (Tail d ∷ k)
+
+abbrev pub value_then : List Item → List Item
+value_then k = level_then 10 (Choice ∷ k)
+
+abbrev pub block_then : List Item → List Item
+block_then k = This mark.OpenCurly ∷ Statements ∷ This mark.CloseCurly ∷ k
+
+abbrev pub loop_then : List Item → List Item
+loop_then k = Word word.For ∷ This mark.OpenRound ∷ Word word.Long ∷ LoopName ∷ k
+
+abbrev pub arm_then : List Item → List Item
+arm_then k = This mark.OpenRound ∷ value_then (This mark.CloseRound ∷ block_then k)
+
+abbrev pub header_then : ℕ → List Item → List Item
+header_then n k =
+    This mark.Assign ∷ value_then (This mark.Semicolon ∷ ThisName n ∷ Compare ∷ level_then 3 (This mark.Semicolon ∷ Step n ∷ This mark.CloseRound ∷ block_then k))
+
+abbrev pub only_if : Bool → List Item → Option (List Item)
+only_if true k = Some k
+only_if false k = None
+
+abbrev pub with_operand : Option Un → List Item → Option (List Item)
+with_operand None k = None
+with_operand (Some o) k = Some (Factor ∷ k)
+
+abbrev pub with_right : Option (ℕ × Bin) → ℕ → List Item → Option (List Item)
+with_right None d k = None
+with_right (Some found) d k = only_if (found.0 == d) (level_then d (Tail d ∷ k))
+
+-- What is expected behind a token that an item begins or goes on with.
+abbrev pub takes : Item → Kind → List Item → Option (List Item)
+takes (This m) (kind.Mark t) k = only_if (sameb mark_type m t) k
+takes (Word w) (kind.Keyword t) k = only_if (sameb keyword_type w t) k
+takes (ThisName n) (kind.Name t) k = only_if (t == n) k
+takes AnyName (kind.Name t) k = Some k
+takes AnyNumber (kind.Number t) k = only_if (nat_le t greatest) k
+takes Factor (kind.Number t) k = only_if (nat_le t greatest) k
+takes Factor (kind.Name t) k = Some (Subscript ∷ k)
+takes Factor (kind.Mark mark.OpenRound) k = Some (value_then (This mark.CloseRound ∷ k))
+takes Factor t k = with_operand (unary t) k
+takes Subscript (kind.Mark mark.OpenSquare) k = Some (value_then (This mark.CloseSquare ∷ k))
+takes (Tail d) t k = with_right (binary t) d k
+takes Choice (kind.Mark mark.Question) k = Some (value_then (This mark.Colon ∷ value_then k))
+takes Compare t k = only_if (is_some (comparison t)) k
+takes Assigns t k = only_if (is_some (assignment t)) k
+takes Statements (kind.Keyword word.Long) k = Some (AnyName ∷ This mark.Assign ∷ value_then (This mark.Semicolon ∷ Statements ∷ k))
+takes Statements (kind.Name t) k = Some (Subscript ∷ Assigns ∷ value_then (This mark.Semicolon ∷ Statements ∷ k))
+takes Statements (kind.Keyword word.If) k = Some (arm_then (Elses ∷ Statements ∷ k))
+takes Statements (kind.Keyword word.For) k = Some (This mark.OpenRound ∷ Word word.Long ∷ LoopName ∷ Statements ∷ k)
+takes Elses (kind.Keyword word.Else) k = Some (BehindElse ∷ k)
+takes BehindElse (kind.Keyword word.If) k = Some (arm_then (Elses ∷ k))
+takes BehindElse (kind.Mark mark.OpenCurly) k = Some (Statements ∷ This mark.CloseCurly ∷ k)
+takes LoopName (kind.Name t) k = Some (header_then t k)
+takes (Step n) (kind.Mark mark.Increment) k = Some (ThisName n ∷ k)
+takes (Step n) (kind.Name t) k = only_if (t == n) (StepTail ∷ k)
+takes StepTail (kind.Mark mark.Increment) k = Some k
+takes StepTail (kind.Mark mark.PlusAssign) k = Some (AnyNumber ∷ k)
+takes Decls (kind.Keyword word.Long) k = Some (AnyName ∷ DeclTail ∷ Decls ∷ k)
+takes Decls (kind.Keyword word.Const) k =
+    Some (Word word.Long ∷ AnyName ∷ This mark.OpenSquare ∷ AnyNumber ∷ This mark.CloseSquare ∷ This mark.Semicolon ∷ Decls ∷ k)
+takes DeclTail (kind.Mark mark.OpenSquare) k = Some (AnyNumber ∷ This mark.CloseSquare ∷ This mark.Semicolon ∷ k)
+takes DeclTail (kind.Mark mark.Assign) k = Some (Signed ∷ This mark.Semicolon ∷ k)
+takes Signed (kind.Number t) k = only_if (nat_le t greatest) k
+takes Signed (kind.Mark mark.Minus) k = Some (AnyNumber ∷ k)
+takes Loops (kind.Keyword word.For) k = Some (This mark.OpenRound ∷ Word word.Long ∷ LoopName ∷ Loops ∷ k)
+takes _ _ k = None
+
+-- what may be left out
+abbrev pub skips : Item → Bool
+skips Subscript = true
+skips (Tail d) = true
+skips Choice = true
+skips Statements = true
+skips Elses = true
+skips Decls = true
+skips Loops = true
+skips _ = false
+
+abbrev pub or_skip : Option (List Item) → Bool → Option (List Item) → Option (List Item)
+or_skip (Some s) b other = Some s
+or_skip None true other = other
+or_skip None false other = None
+
+abbrev pub step : Kind → List Item → Option (List Item)
+step t [] = None
+step t (x ∷ k) = or_skip (takes x t k) (skips x) (step t k)
+
+abbrev pub may_end : List Item → Bool
+may_end [] = true
+may_end (x ∷ k) = skips x && may_end k
+
+-- The tokens at whose head nothing goes on, if there are any: none of them are left where more are expected.
+abbrev pub stuck : List Item → List Token → Option (List Token)
+stuck s [] = if may_end s then None else Some []
+stuck s (t ∷ ts) = elim (step t.kind s) [ None ↦ Some (t ∷ ts) | Some s' ↦ stuck s' ts ]
+
+abbrev pub start : List Item
+start = Decls ∷ Loops ∷ []
