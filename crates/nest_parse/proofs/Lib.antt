@@ -9,3 +9,5 @@ pub mod Names
 pub mod Whole
 pub mod Quiet
 pub mod Complete
+pub mod Viable
+pub mod Fault
