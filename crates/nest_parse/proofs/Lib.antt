@@ -11,3 +11,4 @@ pub mod Quiet
 pub mod Complete
 pub mod Viable
 pub mod Fault
+pub mod Unique
