@@ -12,3 +12,6 @@ pub mod Complete
 pub mod Viable
 pub mod Fault
 pub mod Unique
+pub mod Steps
+pub mod Chains
+pub mod Values

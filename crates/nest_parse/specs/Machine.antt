@@ -1,7 +1,10 @@
 -- What may come next: a list of what is expected, and where tokens don't go on with it. No caller of `parse` needs this.
-use Rattle.std.specs.Prelude.{ℕ, zero, suc, Bool, true, false, ◌&&◌, ◌==◌, nat_le, if◌then◌else◌, Option, Some, None, is_some, List, [], ◌∷◌}
+use Rattle.std.specs.Prelude.{◌≡◌, ◌≤◌, ⊤, Result, IfOk, IfErr, IfSome, IfNone, ℕ, zero, suc, Bool, true, false, ◌&&◌, ◌==◌, nat_le, if◌then◌else◌, Option, Some, None, is_some, List, [], ◌∷◌}
 use Rattle.nest_syntax.specs.declared.operators.Un.{Un}
 use Rattle.nest_syntax.specs.declared.operators.Bin.{Bin}
+use Rattle.nest_syntax.specs.declared.operators.Op.{Op}
+use Rattle.nest_syntax.specs.declared.tree.Expr.{Expr}
+use Rattle.nest_lex.specs.declared.token.Spot.{Spot}
 use Rattle.nest_lex.specs.declared.token.Keyword.{Keyword}
 use Rattle.nest_lex.specs.declared.token.Keyword.TheVariants as word
 use Rattle.nest_lex.specs.declared.token.Mark.{Mark}
@@ -12,7 +15,9 @@ use Rattle.nest_lex.specs.declared.token.Token.{Token}
 use Rattle.nest_lex.specs.contracts.token.Mark.{the_type as mark_type}
 use Rattle.nest_lex.specs.contracts.token.Keyword.{the_type as keyword_type}
 use denote.Enum.Bare.{sameb}
-use Rattle.nest_parse.specs.Grammar.{greatest, binary, unary, assignment, comparison}
+use Rattle.nest_parse.specs.Grammar.{greatest, binary, unary, assignment, comparison, token, sign, keyword, named, numeral, IsFactor, IsExpr}
+use Rattle.nest_parse.specs.declared.refused.Stop.{Stop}
+use Rattle.nest_parse.specs.declared.refused.Stop.TheVariants.{Fault}
 
 pub data Item : Type 0 where
   This : Mark → Item
@@ -139,3 +144,65 @@ stuck s (t ∷ ts) = elim (step t.kind s) [ None ↦ Some (t ∷ ts) | Some s' �
 
 abbrev pub start : List Item
 start = Decls ∷ Loops ∷ []
+
+-- What a function of the parser reads: a thing from `old` up to `new`, and what is expected at `old` is expected behind
+-- it; or else nothing goes on at `new`, whatever is expected behind the thing, or there was no memory.
+pub record Reads {X : Type 0} (Is : List Token → X → List Token → Type 0) (on : List Item → List Item) (old new : List Token) (result : Result X Stop) : Type 0 where
+  pub is : IfOk result (λ x. Is old x new)
+  pub goes : IfOk result (λ _. (k : List Item) → stuck (on k) old ≡ stuck k new)
+  pub sticks : IfErr result (λ e. e ≡ Fault → (k : List Item) → stuck (on k) old ≡ Some new)
+
+-- one token, whose place is left open
+abbrev pub IsSign : Mark → List Token → ⊤ → List Token → Type 0
+IsSign m ts _ r = (s : Spot) × (ts ≡ sign m s ∷ r)
+
+abbrev pub IsWord : Keyword → List Token → ⊤ → List Token → Type 0
+IsWord w ts _ r = (s : Spot) × (ts ≡ keyword w s ∷ r)
+
+abbrev pub IsTheName : ℕ → List Token → ⊤ → List Token → Type 0
+IsTheName n ts _ r = (s : Spot) × (ts ≡ named n s ∷ r)
+
+abbrev pub IsName : List Token → ℕ → List Token → Type 0
+IsName ts n r = (s : Spot) × (ts ≡ named n s ∷ r)
+
+abbrev pub IsNumber : List Token → ℕ → List Token → Type 0
+IsNumber ts n r = (n ≤ greatest) × (s : Spot) × (ts ≡ numeral n s ∷ r)
+
+abbrev pub IsAssignment : List Token → Op → List Token → Type 0
+IsAssignment ts o r = (t : Kind) × (s : Spot) × (assignment t ≡ Some o) × (ts ≡ token t s ∷ r)
+
+abbrev pub IsComparison : List Token → Bool → List Token → Type 0
+IsComparison ts b r = (t : Kind) × (s : Spot) × (comparison t ≡ Some b) × (ts ≡ token t s ∷ r)
+
+-- an expression with the sign that ends it
+abbrev pub IsExprThen : Mark → List Token → Expr → List Token → Type 0
+IsExprThen m ts e r = (s : Spot) × IsExpr ts e (sign m s ∷ r)
+
+abbrev pub IsUnary : List Token → Un → List Token → Type 0
+IsUnary ts o r = (t : Kind) × (s : Spot) × (unary t ≡ Some o) × (ts ≡ token t s ∷ r)
+
+abbrev pub is_name : Kind → Bool
+is_name (kind.Name n) = true
+is_name _ = false
+
+abbrev pub is_mark : Mark → Kind → Bool
+is_mark m (kind.Mark t) = sameb mark_type m t
+is_mark m _ = false
+
+abbrev pub is_keyword : Keyword → Kind → Bool
+is_keyword w (kind.Keyword t) = sameb keyword_type w t
+is_keyword w _ = false
+
+-- no such token comes next, and none is passed
+pub record TakesNone (is_such : Kind → Bool) (old new : List Token) : Type 0 where
+  pub stays : new ≡ old
+  pub other : (t : Token) (r : List Token) → old ≡ t ∷ r → is_such t.kind ≡ false
+
+-- what a name and the tokens behind it are
+abbrev pub IsBehindName : ℕ → List Token → Expr → List Token → Type 0
+IsBehindName n ts e r = (s : Spot) → IsFactor (named n s ∷ ts) e r
+
+-- An operator of this level is passed, or there is none.
+pub record TakesOperator (d : ℕ) (old new : List Token) (result : Option Bin) : Type 0 where
+  pub some : IfSome result (λ o. (t : Kind) × (s : Spot) × (binary t ≡ Some (d, o)) × (old ≡ token t s ∷ new))
+  pub none : IfNone result ((new ≡ old) × ((k : List Item) → stuck (Tail d ∷ k) old ≡ stuck k old))

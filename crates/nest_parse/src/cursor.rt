@@ -67,7 +67,7 @@ impl<'a> Cursor<'a> {
     }
 
     /// The kind of the token that stands `ahead` places behind the next.
-    fn kind_at(&self, ahead: usize) -> Option<Kind>
+    pub(crate) fn kind_at(&self, ahead: usize) -> Option<Kind>
         ensures { result ≡ kind_at self.now ahead }
     {
         let token = self.rest.get(ahead)?;

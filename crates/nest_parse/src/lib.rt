@@ -8,7 +8,10 @@ mod first;
 mod form;
 mod kinds;
 mod refused;
+mod tables;
 mod text;
+mod token_steps;
+mod value;
 
 pub use first::parse_first;
 pub use refused::{FirstRefused, ParseRefused};
