@@ -15,3 +15,5 @@ pub mod Unique
 pub mod Steps
 pub mod Chains
 pub mod Values
+pub mod Listing
+pub mod Blocks

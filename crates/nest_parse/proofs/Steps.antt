@@ -17,7 +17,7 @@ use Rattle.nest_parse.specs.declared.refused.Stop.{Stop}
 use Rattle.nest_parse.specs.declared.refused.Stop.TheVariants.{Fault}
 use Rattle.nest_parse.specs.Grammar.{token, sign, keyword, named, numeral, greatest, binary, unary, assignment, comparison}
 use Rattle.nest_parse.specs.Reading.{kind_at}
-use Rattle.nest_parse.specs.Machine.{Item, This, Word, ThisName, AnyName, AnyNumber, Compare, Assigns, Tail, level_then, takes, skips, stuck, only_if, with_right, Reads, IsSign, IsWord, IsTheName, IsName, IsNumber, IsAssignment, IsComparison, TakesOperator, TakesNone, is_name, is_mark, is_keyword}
+use Rattle.nest_parse.specs.Machine.{Item, This, Word, ThisName, AnyName, AnyNumber, Compare, Assigns, Tail, LoopName, header_then, level_then, takes, skips, stuck, only_if, with_right, Reads, IsSign, IsWord, IsTheName, IsName, IsNumber, IsAssignment, IsComparison, TakesOperator, ReadsVariable, TakesNone, is_name, is_mark, is_keyword}
 use Rattle.nest_parse.proofs.Complete.{taken, skipped, takes_binary}
 
 -- nothing is passed where what is expected can't be left out and isn't there
@@ -173,3 +173,9 @@ other_unary {old} {found} n h = none_of (λ t. is_some (unary t)) old (λ t r o.
     let same : found ≡ t.kind = head_kind n o in
     let none : unary t.kind ≡ None = subst (λ f. unary f ≡ None) same h in
     rw none refl)
+
+pub no_variable : {old : List Token} {e : Stop} → ((found : ℕ) → kind_at old 0 ≡ Some (kind.Name found) → ⊥) → ReadsVariable old old (Err e)
+no_variable {old} none = record { is = tt; goes = tt; sticks = λ e k. unmet LoopName k old refl (λ t r o. no k t.kind (λ f e. none f (no_kind o ∙ ap Some e))) } where
+  no : (k : List Item) (t : Kind) → ((f : ℕ) → t ≡ kind.Name f → ⊥) → takes LoopName t k ≡ None
+  no k (kind.Name f) none = absurd (none f refl)
+  no k _ none = refl

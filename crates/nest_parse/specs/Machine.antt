@@ -1,9 +1,15 @@
 -- What may come next: a list of what is expected, and where tokens don't go on with it. No caller of `parse` needs this.
-use Rattle.std.specs.Prelude.{◌≡◌, ◌≤◌, ⊤, Result, IfOk, IfErr, IfSome, IfNone, ℕ, zero, suc, Bool, true, false, ◌&&◌, ◌==◌, nat_le, if◌then◌else◌, Option, Some, None, is_some, List, [], ◌∷◌}
+use Rattle.std.specs.Prelude.{◌≡◌, ◌≤◌, ⊤, Result, IfOk, IfErr, IfSome, IfNone, MatchOption, ℤ, ℕ, zero, suc, Bool, true, false, ◌&&◌, ◌==◌, nat_le, if◌then◌else◌, Option, Some, None, is_some, List, [], ◌∷◌}
 use Rattle.nest_syntax.specs.declared.operators.Un.{Un}
 use Rattle.nest_syntax.specs.declared.operators.Bin.{Bin}
 use Rattle.nest_syntax.specs.declared.operators.Op.{Op}
+use Rattle.nest_syntax.specs.declared.names.Line.{Line}
 use Rattle.nest_syntax.specs.declared.tree.Expr.{Expr}
+use Rattle.nest_syntax.specs.declared.tree.Arm.{Arm}
+use Rattle.nest_syntax.specs.declared.tree.Stmt.{Stmt}
+use Rattle.nest_syntax.specs.declared.tree.Loop.{Loop}
+use Rattle.nest_syntax.specs.declared.tree.Decl.{Decl}
+use Rattle.nest_syntax.specs.declared.tree.Decl.TheVariants as decl
 use Rattle.nest_lex.specs.declared.token.Spot.{Spot}
 use Rattle.nest_lex.specs.declared.token.Keyword.{Keyword}
 use Rattle.nest_lex.specs.declared.token.Keyword.TheVariants as word
@@ -15,7 +21,7 @@ use Rattle.nest_lex.specs.declared.token.Token.{Token}
 use Rattle.nest_lex.specs.contracts.token.Mark.{the_type as mark_type}
 use Rattle.nest_lex.specs.contracts.token.Keyword.{the_type as keyword_type}
 use denote.Enum.Bare.{sameb}
-use Rattle.nest_parse.specs.Grammar.{greatest, binary, unary, assignment, comparison, token, sign, keyword, named, numeral, IsFactor, IsExpr}
+use Rattle.nest_parse.specs.Grammar.{greatest, binary, unary, assignment, comparison, token, sign, keyword, named, numeral, line, IsFactor, IsLevel, IsExpr, IsStatement, IsStatements, IsArm, IsLoop, IsSigned, IsDecl, AreProgram}
 use Rattle.nest_parse.specs.declared.refused.Stop.{Stop}
 use Rattle.nest_parse.specs.declared.refused.Stop.TheVariants.{Fault}
 
@@ -206,3 +212,92 @@ IsBehindName n ts e r = (s : Spot) → IsFactor (named n s ∷ ts) e r
 pub record TakesOperator (d : ℕ) (old new : List Token) (result : Option Bin) : Type 0 where
   pub some : IfSome result (λ o. (t : Kind) × (s : Spot) × (binary t ≡ Some (d, o)) × (old ≡ token t s ∷ new))
   pub none : IfNone result ((new ≡ old) × ((k : List Item) → stuck (Tail d ∷ k) old ≡ stuck k old))
+
+-- `= EXPR ;`
+abbrev pub IsInitial : List Token → Expr → List Token → Type 0
+IsInitial ts e r = (s : Spot) × (us : List Token) × (s' : Spot) × (ts ≡ sign mark.Assign s ∷ us) × IsExpr us e (sign mark.Semicolon s' ∷ r)
+
+abbrev pub initial_then : List Item → List Item
+initial_then k = This mark.Assign ∷ value_then (This mark.Semicolon ∷ k)
+
+-- the mark of an assignment, an expression and a `;`
+pub record IsAssigned (ts : List Token) (found : Op × Expr) (r : List Token) : Type 0 where
+  pub kind_of : Kind
+  pub spot : Spot
+  pub us : List Token
+  pub last : Spot
+  pub op : assignment kind_of ≡ Some found.0
+  pub at : ts ≡ token kind_of spot ∷ us
+  pub value : IsExpr us found.1 (sign mark.Semicolon last ∷ r)
+
+abbrev pub assigned_then : List Item → List Item
+assigned_then k = Assigns ∷ value_then (This mark.Semicolon ∷ k)
+
+-- a block in brackets
+pub record IsBlock (ts : List Token) (body : List Stmt) (r : List Token) : Type 0 where
+  pub first : Spot
+  pub us : List Token
+  pub last : Spot
+  pub at : ts ≡ sign mark.OpenCurly first ∷ us
+  pub body_is : IsStatements us body (sign mark.CloseCurly last ∷ r)
+
+-- a thing whose first token was passed, which is on the given line
+abbrev pub IsBehind : {X : Type 0} → (Spot → Token) → (List Token → X → List Token → Type 0) → Line → List Token → X → List Token → Type 0
+IsBehind first Is on ts x r = (s : Spot) → on ≡ line s → Is (first s ∷ ts) x r
+
+abbrev pub IsArmAt : Line → List Token → Arm → List Token → Type 0
+IsArmAt on ts x r = (s : Spot) → on ≡ line s → IsArm s ts x r
+
+-- the test of a loop, with its `;`
+pub record IsTest (n : ℕ) (ts : List Token) (found : Bool × Expr) (r : List Token) : Type 0 where
+  pub kind_of : Kind
+  pub name_spot : Spot
+  pub spot : Spot
+  pub us : List Token
+  pub last : Spot
+  pub compares : comparison kind_of ≡ Some found.0
+  pub at : ts ≡ named n name_spot ∷ token kind_of spot ∷ us
+  pub high : IsLevel 3 us found.1 (sign mark.Semicolon last ∷ r)
+
+abbrev pub test_then : ℕ → List Item → List Item
+test_then n k = ThisName n ∷ Compare ∷ level_then 3 (This mark.Semicolon ∷ k)
+
+-- what follows the name of a loop's variable in its header
+abbrev pub IsBehindVariable : Line → ℕ → List Token → Loop → List Token → Type 0
+IsBehindVariable on n ts x r = (s s1 s2 s3 : Spot) → on ≡ line s → IsLoop (keyword word.For s ∷ sign mark.OpenRound s1 ∷ keyword word.Long s2 ∷ named n s3 ∷ ts) x r
+
+-- `LENGTH ] ;`
+pub record IsLength (ts : List Token) (n : ℕ) (r : List Token) : Type 0 where
+  pub spot : Spot
+  pub middle : Spot
+  pub last : Spot
+  pub small : n ≤ greatest
+  pub at : ts ≡ numeral n spot ∷ sign mark.CloseSquare middle ∷ sign mark.Semicolon last ∷ r
+
+abbrev pub length_then : List Item → List Item
+length_then k = AnyNumber ∷ This mark.CloseSquare ∷ This mark.Semicolon ∷ k
+
+-- what follows the name in a declaration
+abbrev pub IsBehindDeclared : Line → ℕ → List Token → Decl → List Token → Type 0
+IsBehindDeclared on n ts x r = (s s1 : Spot) → on ≡ line s → IsDecl (keyword word.Long s ∷ named n s1 ∷ ts) x r
+
+-- the next of many things, if there is one more
+pub record ReadsNext {X : Type 0} (Is : List Token → X → List Token → Type 0) (x : Item) (old new : List Token) (result : Result (Option X) Stop) : Type 0 where
+  pub is : IfOk result (λ found. IfSome found (λ v. Is old v new))
+  pub goes : IfOk result (λ found. MatchOption found ((new ≡ old) × ((k : List Item) → stuck (x ∷ k) old ≡ stuck k old)) (λ _. (k : List Item) → stuck (x ∷ k) old ≡ stuck (x ∷ k) new))
+  pub sticks : IfErr result (λ e. e ≡ Fault → (k : List Item) → stuck (x ∷ k) old ≡ Some new)
+
+-- the whole of a nest
+pub record ReadsProgram (old new : List Token) (result : Result (List Decl × List Loop) Stop) : Type 0 where
+  pub is : IfOk result (λ p. AreProgram old p.0 p.1)
+  pub sticks : IfErr result (λ e. e ≡ Fault → stuck start old ≡ Some new)
+
+-- the name of a loop's variable, which is expected again in the loop's header
+pub record ReadsVariable (old new : List Token) (result : Result ℕ Stop) : Type 0 where
+  pub is : IfOk result (λ n. IsName old n new)
+  pub goes : IfOk result (λ n. (k : List Item) → stuck (LoopName ∷ k) old ≡ stuck (header_then n k) new)
+  pub sticks : IfErr result (λ e. e ≡ Fault → (k : List Item) → stuck (LoopName ∷ k) old ≡ Some new)
+
+-- a scalar's value, behind the `=` of its declaration
+abbrev pub IsScalar : Line → ℕ → List Token → Decl → List Token → Type 0
+IsScalar on n ts x r = (z : ℤ) × IsSigned ts z r × (x ≡ decl.Scalar on n z)

@@ -49,6 +49,13 @@ impl<'a> Cursor<'a> {
         }
     }
 
+    /// How many tokens are left.
+    pub(crate) fn left(&self) -> usize
+        ensures { result ≡ length self.now }
+    {
+        self.rest.len()
+    }
+
     pub(crate) fn is_done(&self) -> bool
         ensures { IsTrue result ↔ (self.now ≡ []) }
     {

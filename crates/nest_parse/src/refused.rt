@@ -1,6 +1,7 @@
 ghost use Rattle.std.specs.Prelude.{◌≡◌};
 ghost use Rattle.nest_parse.specs.declared.refused.FirstRefused.TheVariants.{NoMemory};
 ghost use Rattle.nest_parse.specs.declared.refused.Stop.TheVariants.{NoMemory as NoRoom};
+ghost use Rattle.nest_parse.specs.declared.refused.ParseRefused.TheVariants.{NoMemory as NoSpace};
 
 use std::alloc::{AllocError, AllocFailed};
 use thiserror::Error;
@@ -56,5 +57,13 @@ impl From<AllocError> for Stop {
 
     fn from(_error: AllocError) -> Stop {
         Stop::NoMemory
+    }
+}
+
+impl From<AllocError> for ParseRefused {
+    ghost from_gives = { λ _ e. e ≡ NoSpace };
+
+    fn from(_error: AllocError) -> ParseRefused {
+        ParseRefused::NoMemory
     }
 }

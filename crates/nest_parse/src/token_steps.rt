@@ -121,6 +121,18 @@ impl<'a> Cursor<'a> {
         Ok(found)
     }
 
+    /// Passes the name of a loop's variable.
+    pub(crate) fn variable(&mut self) -> Result<u32, Stop>
+        ensures reads { machine.ReadsVariable self.old self.new result }
+        ensures shorter { OnOk result (length self.new < length self.old) }
+    {
+        let Some(found) = self.next_name() else {
+            return Err(Stop::Fault);
+        };
+        self.skip();
+        Ok(found)
+    }
+
     pub(crate) fn number(&mut self) -> Result<u64, Stop>
         ensures reads { machine.Reads machine.IsNumber (λ k. machine.AnyNumber ∷ k) self.old self.new result }
         ensures shorter { OnOk result (length self.new < length self.old) }
