@@ -173,10 +173,10 @@ pub record Armed (on : Line) (old now : List Token) (arms : List Arm) : Type 0 w
   pub goes : (k : List Item) → stuck (arm_then (Elses ∷ k)) old ≡ stuck (Elses ∷ k) now
   pub shorter : length now < length old
 
-pub armed : {on : Line} {old now : List Token} {first : Arm} {arms : List Arm} → Reads (IsArmAt on) arm_then old now (Ok first) → length now < length old → arms ≡ [] ++ first ∷ []
+pub armed : {on : Line} {old now : List Token} {first : Arm} {none arms : List Arm} → Reads (IsArmAt on) arm_then old now (Ok first) → length now < length old → none ≡ [] → arms ≡ none ++ first ∷ []
     → Armed on old now arms
-armed {on} {old} {now} {first} {arms} r s e = record {
-  is = λ s h more other q x. subst (λ xs. IsStatement (keyword word.If s ∷ old) (stmt.If (xs ++ more) other) q) (sym e) (chooses (r.is s h) x);
+armed {on} {old} {now} {first} {none} {arms} r s z e = record {
+  is = λ s h more other q x. subst (λ xs. IsStatement (keyword word.If s ∷ old) (stmt.If (xs ++ more) other) q) (sym (e ∙ ap (λ xs. xs ++ first ∷ []) z)) (chooses (r.is s h) x);
   goes = λ k. r.goes (Elses ∷ k);
   shorter = s;
 }

@@ -17,3 +17,4 @@ pub mod Chains
 pub mod Values
 pub mod Listing
 pub mod Blocks
+pub mod WellNamed

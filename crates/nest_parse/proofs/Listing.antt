@@ -1,5 +1,6 @@
 -- Reading many things, one after another.
 use Rattle.std.proofs.Common.{◌≡◌, ℕ, ◌+◌, ◌<◌, ◌≤◌, Option, Some, None, Result, Ok, Err, List, [], ◌∷◌, ◌++◌, length, refl, sym, ◌∙◌, ap, subst, arith, append_assoc}
+use Rattle.std.specs.Prelude.{IsSome}
 use Rattle.nest_lex.specs.declared.token.Token.{Token}
 use Rattle.nest_parse.specs.declared.refused.Stop.{Stop}
 use Rattle.nest_parse.specs.Machine.{Item, stuck, Reads, ReadsNext}
@@ -40,3 +41,14 @@ all_listed {X} {Is} {Are} {x} {old} {now} {new} {list} l nothing r = record {
 pub next_refused : {X : Type 0} {Is : List Token → X → List Token → Type 0} {Are : List Token → List X → List Token → Type 0} {x : Item} {old now new : List Token} {list : List X} {e f : Stop}
     → Listed Are x old now list → ReadsNext Is x now new (Err e) → f ≡ e → Reads Are (λ k. x ∷ k) old new (Err f)
 next_refused l r same = record { is = tt; goes = tt; sticks = λ q k. l.goes k ∙ r.sticks (sym same ∙ q) k }
+
+pub listed_next : {X : Type 0} {Is : List Token → X → List Token → Type 0} {Are : List Token → List X → List Token → Type 0} {x : Item} {old now new : List Token} {list list' : List X} {v : X} {found : Option X}
+    → Listed Are x old now list → ((ts m r : List Token) (y : X) (ys : List X) → Is ts y m → Are m ys r → Are ts (y ∷ ys) r) → ReadsNext Is x now new (Ok found) → found ≡ Some v
+    → (IsSome found → length new < length now) → list' ≡ list ++ v ∷ [] → Listed Are x old new list'
+listed_next {X} {Is} {Are} {x} {old} {now} {new} {list} {list'} {v} {found} l with_more r e s g =
+    subst (λ ys. Listed Are x old new ys) (sym g)
+    (listed_on {Is = Is} l with_more (subst (λ f. ReadsNext Is x now new (Ok f)) e r) (subst (λ f. IsSome f → length new < length now) e s refl))
+
+pub no_more_listed : {X : Type 0} {Is : List Token → X → List Token → Type 0} {Are : List Token → List X → List Token → Type 0} {x : Item} {old now new : List Token} {list : List X} {found : Option X}
+    → Listed Are x old now list → ((r : List Token) → Are r [] r) → ReadsNext Is x now new (Ok found) → found ≡ None → Reads Are (λ k. x ∷ k) old new (Ok list)
+no_more_listed {X} {Is} {Are} {x} {old} {now} {new} l nothing r e = all_listed {Is = Is} l nothing (subst (λ f. ReadsNext Is x now new (Ok f)) e r)

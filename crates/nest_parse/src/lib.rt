@@ -3,17 +3,22 @@
 
 mod build;
 mod cursor;
+mod declaration;
 mod expression;
 mod first;
 mod form;
+mod header;
 mod kinds;
+mod parser;
 mod refused;
+mod statement;
 mod tables;
 mod text;
 mod token_steps;
 mod value;
 
 pub use first::parse_first;
+pub use parser::parse;
 pub use refused::{FirstRefused, ParseRefused};
 
 #[cfg(test)]
