@@ -18,3 +18,4 @@ pub mod Values
 pub mod Listing
 pub mod Blocks
 pub mod WellNamed
+pub mod Parsed
