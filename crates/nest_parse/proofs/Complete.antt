@@ -39,7 +39,7 @@ no_subscript k (t ∷ ts) q = skipped Subscript k (t ∷ ts) refl (λ u us e. rw
 
 not_right : (d : ℕ) (k : List Item) (t : Kind) → nat_lt (suc d) (strength t) ≡ true → takes (Tail d) t k ≡ None
 not_right d k t q = elim (binary t) as (λ found. binary t ≡ found → with_right found d k ≡ None) [
-  None ↦ λ e. refl
+  | None ↦ λ e. refl
   | Some found ↦ λ e. other found (strength_of t e)
 ] refl where
   other : (found : ℕ × Bin) → strength t ≡ suc found.0 → only_if (eqb found.0 d) (level_then d (Tail d ∷ k)) ≡ None
@@ -103,9 +103,9 @@ takes_comparison t k e = rw e refl
 past_subscript : (t : Kind) {o : Op} (s : Spot) (k : List Item) (ts : List Token) → assignment t ≡ Some o → stuck (Subscript ∷ Assigns ∷ k) (token t s ∷ ts) ≡ stuck k ts
 past_subscript t s k ts e =
     no_subscript (Assigns ∷ k) (token t s ∷ ts) (quiet_there t e) ∙ taken Assigns t k s ts (takes_assignment t k e) where
-  quiet_there : (t : Kind) {o : Op} → assignment t ≡ Some o → nat_lt 0 (strength t) ≡ true
-  quiet_there (kind.Mark mark.OpenSquare) e = cc
-  quiet_there _ e = refl
+      quiet_there : (t : Kind) {o : Op} → assignment t ≡ Some o → nat_lt 0 (strength t) ≡ true
+      quiet_there (kind.Mark mark.OpenSquare) e = cc
+      quiet_there _ e = refl
 
 this_name : (n : ℕ) (k : List Item) (s : Spot) (ts : List Token) → stuck (ThisName n ∷ k) (named n s ∷ ts) ≡ stuck k ts
 this_name n k s ts = taken (ThisName n) (kind.Name n) k s ts (rw (eq-eqb n n refl) refl)

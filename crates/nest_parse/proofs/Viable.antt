@@ -133,10 +133,11 @@ header_spells n k ts h s3 =
     let close = st.2 in
     let opening = close.2 in
     let xs = opening.2 in
-    let end = xs.2 in
-    (end.0,
-    λ s s1 s2. loop_on h.1 low.2 low.3.1 name.1 compare.1.2 compare.1.3 high.2 high.3.1 st.1.1 close.1 opening.1 xs.1.1 end.1 s s1 s2 s3,
-    end.2)
+    let end = xs.2 in (
+      end.0,
+      λ s s1 s2. loop_on h.1 low.2 low.3.1 name.1 compare.1.2 compare.1.3 high.2 high.3.1 st.1.1 close.1 opening.1 xs.1.1 end.1 s s1 s2 s3,
+      end.2,
+    )
 
 loop_opened : {ts a b c : List Token} (k : List Item) → IsThe (kind.Mark mark.OpenRound) ts a → IsThe (kind.Keyword word.Long) a b → Means LoopName b c → Spells k c → (s : Spot)
     → (l : Loop) × (r : List Token) × IsLoop (keyword word.For s ∷ ts) l r × Spells k r
@@ -306,10 +307,11 @@ least Factor r = (numeral 0 nowhere ∷ r, (_, a_number nothing))
 least Compare r = (sign mark.Less nowhere ∷ r, (kind.Mark mark.Less, false, refl, here))
 least Assigns r = (sign mark.Assign nowhere ∷ r, (kind.Mark mark.Assign, _, refl, here))
 least BehindElse r = (sign mark.OpenCurly nowhere ∷ sign mark.CloseCurly nowhere ∷ r, λ s. ([], [], last_else no_statement))
-least LoopName r =
-    (named 0 nowhere ∷ sign mark.Assign nowhere ∷ numeral 0 nowhere ∷ sign mark.Semicolon nowhere ∷ named 0 nowhere ∷ sign mark.Less nowhere ∷ numeral 0 nowhere
-    ∷ sign mark.Semicolon nowhere ∷ named 0 nowhere ∷ sign mark.Increment nowhere ∷ sign mark.CloseRound nowhere ∷ sign mark.OpenCurly nowhere ∷ sign mark.CloseCurly nowhere ∷ r,
-    λ s s1 s2. (_, a_loop (plain (at_level 10 (a_number nothing))) refl (at_level 3 (a_number nothing)) behind no_statement))
+least LoopName r = (
+  named 0 nowhere ∷ sign mark.Assign nowhere ∷ numeral 0 nowhere ∷ sign mark.Semicolon nowhere ∷ named 0 nowhere ∷ sign mark.Less nowhere ∷ numeral 0 nowhere
+      ∷ sign mark.Semicolon nowhere ∷ named 0 nowhere ∷ sign mark.Increment nowhere ∷ sign mark.CloseRound nowhere ∷ sign mark.OpenCurly nowhere ∷ sign mark.CloseCurly nowhere ∷ r,
+  λ s s1 s2. (_, a_loop (plain (at_level 10 (a_number nothing))) refl (at_level 3 (a_number nothing)) behind no_statement),
+)
 least (Step n) r = (sign mark.Increment nowhere ∷ named n nowhere ∷ r, (1, before))
 least StepTail r = (sign mark.Increment nowhere ∷ r, λ n s. (1, behind))
 least DeclTail r = (sign mark.OpenSquare nowhere ∷ numeral 0 nowhere ∷ sign mark.CloseSquare nowhere ∷ sign mark.Semicolon nowhere ∷ r, λ n s s1. (_, an_array nothing))

@@ -12,6 +12,7 @@ use std::alloc::Global;
 
 /// The level of all operators, and that of the operators up to the shifts.
 pub(crate) const LOOSEST: usize = 10;
+
 pub(crate) const SHIFT: usize = 3;
 
 fn literal(number: u64) -> Expr
