@@ -1,8 +1,7 @@
 -- Reading one thing behind another.
-use Rattle.std.proofs.Common.{◌≡◌, Result, Ok, Err, IsErrAnd, List, refl, sym, ◌∙◌, ap, subst}
+use Rattle.std.proofs.Common.{◌≡◌, Result, Ok, Err, IsErrAnd, List, sym, ◌∙◌}
 use Rattle.nest_lex.specs.declared.token.Token.{Token}
 use Rattle.nest_parse.specs.declared.refused.Stop.{Stop}
-use Rattle.nest_parse.specs.declared.refused.Stop.TheVariants.{Fault, NoMemory}
 use Rattle.nest_parse.specs.Machine.{Item, stuck, Reads}
 
 -- what stops the reading of a part stops the whole: it is handed on

@@ -1,6 +1,6 @@
 -- The machine goes through whatever the grammar derives.
-use Rattle.std.proofs.Common.{◌≡◌, ℕ, zero, suc, ◌+◌, ◌<◌, ◌≤◌, Bool, true, false, Option, Some, None, List, [], ◌∷◌, refl, sym, ◌∙◌, ap, le-leb, lt-ltb, arith, eqb, eq-eqb, nat_lt}
-use Rattle.std.specs.Prelude.{nat_le, is_some, ◌&&◌}
+use Rattle.std.proofs.Common.{◌≡◌, ℕ, suc, ◌≤◌, Bool, true, false, Some, None, List, [], ◌∷◌, refl, ◌∙◌, ap, le-leb, arith, eqb, eq-eqb, nat_lt}
+use Rattle.std.specs.Prelude.{nat_le}
 use Rattle.std.proofs.lemmas.Bool.Decides.{nat_tests}
 use Rattle.nest_syntax.specs.declared.operators.Un.{Un}
 use Rattle.nest_syntax.specs.declared.operators.Bin.{Bin}
@@ -17,9 +17,9 @@ use Rattle.nest_lex.specs.declared.token.Kind.{Kind}
 use Rattle.nest_lex.specs.declared.token.Kind.TheVariants as kind
 use Rattle.nest_lex.specs.declared.token.Token.{Token}
 use Rattle.std.specs.Prelude.{ℤ}
-use Rattle.nest_parse.specs.Grammar.{token, sign, keyword, named, numeral, greatest, binary, unary, assignment, comparison, shift, loosest, IsFactor, a_number, a_name, a_word, in_parentheses, signed, IsLevel, tightest, level, IsTail, ended, goes_on, IsExpr, plain, choice, IsStep, behind, before, by, IsStatement, declares, assigns, writes, chooses, turns, IsArm, an_arm, IsElses, no_else, else_if, last_else, IsLoop, a_loop, IsStatements, no_statement, statement, IsSigned, positive, negative, IsDecl, an_array, a_fixed_array, a_scalar, AreDecls, no_decl, declaration, AreLoops, no_loop, a_region, AreProgram}
-use Rattle.nest_parse.specs.Machine.{Item, This, Word, ThisName, AnyName, AnyNumber, Factor, Subscript, Tail, Choice, Compare, Assigns, Statements, Elses, BehindElse, LoopName, Step, StepTail, Decls, DeclTail, Signed, Loops, level_then, value_then, block_then, loop_then, arm_then, header_then, only_if, with_operand, with_right, takes, skips, or_skip, step, may_end, stuck, start}
-use Rattle.nest_parse.proofs.Quiet.{strength, strength_of, quiet, quiet-less, quiet-operator, quiet-tail, settled, settled-statements}
+use Rattle.nest_parse.specs.Grammar.{token, sign, named, numeral, greatest, binary, unary, assignment, comparison, IsFactor, a_number, a_name, a_word, in_parentheses, signed, IsLevel, tightest, level, IsTail, ended, goes_on, IsExpr, plain, choice, IsStep, behind, before, by, IsStatement, declares, assigns, writes, chooses, turns, IsArm, an_arm, IsElses, no_else, else_if, last_else, IsLoop, a_loop, IsStatements, no_statement, statement, IsSigned, positive, negative, IsDecl, an_array, a_fixed_array, a_scalar, AreDecls, no_decl, declaration, AreLoops, no_loop, a_region, AreProgram}
+use Rattle.nest_parse.specs.Machine.{Item, This, ThisName, AnyNumber, Factor, Subscript, Tail, Choice, Compare, Assigns, Statements, Elses, Step, StepTail, Decls, Signed, Loops, level_then, value_then, block_then, loop_then, arm_then, only_if, with_operand, with_right, takes, skips, stuck, start}
+use Rattle.nest_parse.proofs.Quiet.{strength, strength_of, quiet, quiet-less, quiet-tail, settled, settled-statements}
 
 -- an item that may be left out is left out
 pub skipped : (x : Item) (k : List Item) (r : List Token) → skips x ≡ true → ((t : Token) (ts : List Token) → r ≡ t ∷ ts → takes x t.kind k ≡ None)

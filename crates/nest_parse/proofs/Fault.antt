@@ -1,9 +1,7 @@
 -- Where the machine is stuck is the fault.
-use Rattle.std.proofs.Common.{◌≡◌, ℕ, zero, suc, ◌+◌, ◌-◌, ◌<◌, ◌≤◌, Option, Some, None, List, [], ◌∷◌, ◌++◌, length, take, refl, sym, ◌∙◌, ap, subst, arith, append_assoc, length-append, add-one}
-use Rattle.nest_syntax.specs.declared.tree.Loop.{Loop}
-use Rattle.nest_syntax.specs.declared.tree.Decl.{Decl}
+use Rattle.std.proofs.Common.{◌≡◌, ℕ, suc, ◌+◌, ◌<◌, Option, Some, None, List, [], ◌∷◌, ◌++◌, length, take, refl, sym, ◌∙◌, ap, subst, arith, append_assoc, length-append}
 use Rattle.nest_lex.specs.declared.token.Token.{Token}
-use Rattle.nest_parse.specs.Grammar.{AreProgram, BeginProgram, IsFaultAt}
+use Rattle.nest_parse.specs.Grammar.{BeginProgram, IsFaultAt}
 use Rattle.nest_parse.specs.Machine.{stuck, start}
 use Rattle.nest_parse.proofs.Complete.{complete}
 use Rattle.nest_parse.proofs.Viable.{Stops, stops, begins}

@@ -1,15 +1,14 @@
 -- What the whole reading tells of the tokens.
-use Rattle.std.proofs.Common.{◌≡◌, ℕ, ◌+◌, ◌-◌, ◌≤◌, Result, Ok, Err, Some, List, ◌++◌, length, refl, sym, ◌∙◌, ap, subst, arith, length-append}
+use Rattle.std.proofs.Common.{◌≡◌, ℕ, ◌-◌, ◌≤◌, Ok, Err, Some, List, length, ◌∙◌, ap, subst, arith, length-append}
 use Rattle.nest_syntax.specs.declared.tree.Loop.{Loop}
 use Rattle.nest_syntax.specs.declared.tree.Decl.{Decl}
-use Rattle.nest_syntax.specs.declared.tree.Program.{Program}
 use Rattle.nest_lex.specs.declared.token.Token.{Token}
 use Rattle.nest_lex.specs.declared.token.Tokens.{Tokens}
 use Rattle.nest_parse.specs.declared.refused.Stop.{Stop}
 use Rattle.nest_parse.specs.declared.refused.Stop.TheVariants.{Fault}
 use Rattle.nest_parse.specs.Grammar.{AreProgram, Derives, IsFaultAt}
 use Rattle.nest_parse.specs.Machine.{stuck, start, ReadsProgram}
-use Rattle.nest_parse.proofs.Viable.{Stops, stops}
+use Rattle.nest_parse.proofs.Viable.{stops}
 use Rattle.nest_parse.proofs.Fault.{fault_at}
 
 pub derived : {tokens : Tokens} {old new slice : List Token} {ds : List Decl} {ls : List Loop} {names : List (List ℕ)} → slice ≡ tokens.list → old ≡ slice → ReadsProgram old new (Ok (ds, ls))

@@ -1,18 +1,17 @@
 -- What may follow an expression or a list of statements, so that it can't go on.
-use Rattle.std.proofs.Common.{◌≡◌, ℕ, zero, suc, ◌+◌, ◌<◌, ◌≤◌, Bool, true, false, Option, Some, None, List, [], ◌∷◌, refl, sym, ◌∙◌, ap, lt-ltb, leb-true, arith, nat_lt}
+use Rattle.std.proofs.Common.{◌≡◌, ℕ, suc, ◌≤◌, Bool, true, false, Option, Some, None, List, [], ◌∷◌, refl, ap, lt-ltb, arith, nat_lt}
 use Rattle.std.specs.Prelude.{not}
 use Rattle.std.proofs.lemmas.Bool.Decides.{nat_tests}
 use Rattle.nest_syntax.specs.declared.operators.Bin.{Bin}
 use Rattle.nest_syntax.specs.declared.tree.Expr.{Expr}
 use Rattle.nest_syntax.specs.declared.tree.Stmt.{Stmt}
-use Rattle.nest_syntax.specs.declared.tree.Arm.{Arm}
 use Rattle.nest_lex.specs.declared.token.Spot.{Spot}
 use Rattle.nest_lex.specs.declared.token.Keyword.TheVariants as word
 use Rattle.nest_lex.specs.declared.token.Mark.TheVariants as mark
 use Rattle.nest_lex.specs.declared.token.Kind.{Kind}
 use Rattle.nest_lex.specs.declared.token.Kind.TheVariants as kind
 use Rattle.nest_lex.specs.declared.token.Token.{Token}
-use Rattle.nest_parse.specs.Grammar.{token, binary, IsTail, ended, goes_on, IsStatement, declares, assigns, writes, chooses, turns, IsLoop, a_loop, IsStatements, no_statement, statement, IsElses, no_else, else_if, last_else}
+use Rattle.nest_parse.specs.Grammar.{token, binary, IsTail, ended, goes_on, IsStatement, declares, assigns, writes, chooses, turns, a_loop, IsStatements, no_statement, statement}
 
 abbrev above : Option (ℕ × Bin) → ℕ
 above (Some found) = suc found.0

@@ -1,11 +1,9 @@
 -- Reading one token.
-use Rattle.std.proofs.Common.{◌≡◌, ℕ, zero, suc, ◌+◌, ◌<◌, ◌≤◌, Bool, true, false, Option, Some, None, Result, Ok, Err, List, [], ◌∷◌, length, refl, sym, ◌∙◌, ap, subst, arith, eqb, eq-eqb, ne_eqb, le-leb}
-use Rattle.std.specs.Prelude.{slice_get, option_map, nat_le, is_some}
+use Rattle.std.proofs.Common.{◌≡◌, ℕ, ◌<◌, Bool, false, Some, None, Err, List, [], ◌∷◌, refl, sym, ◌∙◌, ap, subst, arith, ne_eqb}
+use Rattle.std.specs.Prelude.{nat_le, is_some}
 use Rattle.std.proofs.lemmas.Bool.Decides.{nat_tests}
-use denote.Enum.Bare.{sameb, true_same, false_same}
-use Rattle.nest_syntax.specs.declared.operators.Op.{Op}
+use denote.Enum.Bare.{false_same}
 use Rattle.nest_syntax.specs.declared.operators.Bin.{Bin}
-use Rattle.nest_lex.specs.declared.token.Spot.{Spot}
 use Rattle.nest_lex.specs.declared.token.Keyword.{Keyword}
 use Rattle.nest_lex.specs.declared.token.Mark.{Mark}
 use Rattle.nest_lex.specs.declared.token.Kind.{Kind}
@@ -14,11 +12,10 @@ use Rattle.nest_lex.specs.declared.token.Token.{Token}
 use Rattle.nest_lex.specs.contracts.token.Mark.{the_type as mark_type}
 use Rattle.nest_lex.specs.contracts.token.Keyword.{the_type as keyword_type}
 use Rattle.nest_parse.specs.declared.refused.Stop.{Stop}
-use Rattle.nest_parse.specs.declared.refused.Stop.TheVariants.{Fault}
-use Rattle.nest_parse.specs.Grammar.{token, sign, keyword, named, numeral, greatest, binary, unary, assignment, comparison}
+use Rattle.nest_parse.specs.Grammar.{greatest, binary, unary, assignment, comparison}
 use Rattle.nest_parse.specs.Reading.{kind_at}
-use Rattle.nest_parse.specs.Machine.{Item, This, Word, ThisName, AnyName, AnyNumber, Compare, Assigns, Tail, LoopName, header_then, level_then, takes, skips, stuck, only_if, with_right, Reads, IsSign, IsWord, IsTheName, IsName, IsNumber, IsAssignment, IsComparison, TakesOperator, ReadsVariable, TakesNone, is_name, is_mark, is_keyword}
-use Rattle.nest_parse.proofs.Complete.{taken, skipped, takes_binary}
+use Rattle.nest_parse.specs.Machine.{Item, This, Word, ThisName, AnyName, AnyNumber, Compare, Assigns, Tail, LoopName, takes, skips, stuck, Reads, IsSign, IsWord, IsTheName, IsName, IsNumber, IsAssignment, IsComparison, TakesOperator, ReadsVariable, TakesNone, is_name, is_mark, is_keyword}
+use Rattle.nest_parse.proofs.Complete.{skipped}
 
 -- nothing is passed where what is expected can't be left out and isn't there
 pub unmet : (x : Item) (k : List Item) (old : List Token) → skips x ≡ false → ((t : Token) (r : List Token) → old ≡ t ∷ r → takes x t.kind k ≡ None) → stuck (x ∷ k) old ≡ Some old

@@ -1,9 +1,8 @@
 -- Tokens have one reading.
-use Rattle.std.proofs.Common.{◌≡◌, ℕ, zero, suc, ◌+◌, Bool, true, false, Option, Some, None, List, [], ◌∷◌, refl, sym, ◌∙◌, ap, subst}
-use Rattle.std.specs.Prelude.{not, ℤ}
+use Rattle.std.proofs.Common.{◌≡◌, ℕ, suc, Bool, true, false, Option, Some, List, [], ◌∷◌, refl, sym, ◌∙◌, ap, subst}
+use Rattle.std.specs.Prelude.{ℤ}
 use Rattle.nest_syntax.specs.declared.operators.Bin.{Bin}
 use Rattle.nest_syntax.specs.declared.operators.Op.{Op}
-use Rattle.nest_syntax.specs.declared.operators.Un.{Un}
 use Rattle.nest_syntax.specs.declared.tree.Expr.{Expr}
 use Rattle.nest_syntax.specs.declared.tree.Expr.TheVariants as expr
 use Rattle.nest_syntax.specs.declared.tree.Arm.{Arm}
@@ -20,8 +19,8 @@ use Rattle.nest_lex.specs.declared.token.Kind.{Kind}
 use Rattle.nest_lex.specs.declared.token.Kind.TheVariants as kind
 use Rattle.nest_lex.specs.declared.token.Token.{Token}
 use Rattle.nest_lex.specs.declared.token.Tokens.{Tokens}
-use Rattle.nest_parse.specs.Grammar.{token, sign, keyword, named, numeral, line, binary, unary, assignment, comparison, IsFactor, a_number, a_name, a_word, in_parentheses, signed, IsLevel, tightest, level, IsTail, ended, goes_on, IsExpr, plain, choice, IsStep, behind, before, by, IsStatement, declares, assigns, writes, chooses, turns, IsArm, an_arm, IsElses, no_else, else_if, last_else, IsLoop, a_loop, IsStatements, no_statement, statement, IsSigned, positive, negative, IsDecl, an_array, a_fixed_array, a_scalar, AreDecls, no_decl, declaration, AreLoops, no_loop, a_region, AreProgram, Derives}
-use Rattle.nest_parse.proofs.Quiet.{strength, strength_of, quiet, quiet-less, quiet-operator, quiet-tail, not_quiet, settled, settled-statements}
+use Rattle.nest_parse.specs.Grammar.{token, sign, line, assignment, comparison, IsFactor, a_number, a_name, a_word, in_parentheses, signed, IsLevel, tightest, level, IsTail, ended, goes_on, IsExpr, plain, choice, IsStep, behind, before, by, IsStatement, declares, assigns, writes, chooses, turns, IsArm, an_arm, IsElses, no_else, else_if, last_else, IsLoop, a_loop, IsStatements, no_statement, statement, IsSigned, positive, negative, IsDecl, an_array, a_fixed_array, a_scalar, AreDecls, no_decl, declaration, AreLoops, no_loop, a_region, AreProgram, Derives}
+use Rattle.nest_parse.proofs.Quiet.{quiet, quiet-less, quiet-tail, not_quiet, settled, settled-statements}
 
 -- one thing, and one list of tokens behind it
 abbrev Same : {X : Type 0} → X → X → List Token → List Token → Type 0

@@ -1,6 +1,5 @@
 -- Reading expressions.
-use Rattle.std.proofs.Common.{◌≡◌, ℕ, zero, suc, ◌+◌, ◌<◌, ◌≤◌, Bool, true, false, pos, Option, Some, None, Result, Ok, Err, List, [], ◌∷◌, length, refl, sym, ◌∙◌, ap, subst, arith, is_some}
-use denote.Enum.Bare.{sameb}
+use Rattle.std.proofs.Common.{◌≡◌, ℕ, suc, ◌<◌, Bool, true, false, pos, Some, None, Result, Ok, Err, List, [], ◌∷◌, length, refl, sym, ◌∙◌, ap, subst, arith, is_some}
 use Rattle.nest_syntax.specs.declared.operators.Bin.{Bin}
 use Rattle.nest_syntax.specs.declared.operators.Un.{Un}
 use Rattle.nest_syntax.specs.declared.tree.Expr.{Expr}
@@ -10,8 +9,8 @@ use Rattle.nest_lex.specs.declared.token.Kind.{Kind}
 use Rattle.nest_lex.specs.declared.token.Kind.TheVariants as kind
 use Rattle.nest_lex.specs.declared.token.Token.{Token}
 use Rattle.nest_parse.specs.declared.refused.Stop.{Stop}
-use Rattle.nest_parse.specs.Grammar.{token, sign, named, greatest, binary, unary, IsFactor, a_number, a_name, a_word, in_parentheses, signed, IsLevel, tightest, level, IsTail, ended, goes_on, IsExpr, plain, choice}
-use Rattle.nest_parse.specs.Machine.{Item, This, AnyNumber, Factor, Subscript, Tail, Choice, level_then, value_then, with_operand, takes, skips, stuck, Reads, IsSign, IsName, IsNumber, IsUnary, IsExprThen, IsBehindName, TakesOperator, TakesNone, is_name, is_mark}
+use Rattle.nest_parse.specs.Grammar.{sign, named, unary, IsFactor, a_number, a_name, a_word, in_parentheses, signed, IsLevel, tightest, level, IsTail, ended, goes_on, IsExpr, plain, choice}
+use Rattle.nest_parse.specs.Machine.{Item, This, AnyNumber, Factor, Subscript, Tail, Choice, level_then, value_then, takes, skips, stuck, Reads, IsSign, IsName, IsNumber, IsUnary, IsExprThen, IsBehindName, TakesOperator, TakesNone, is_name, is_mark}
 use Rattle.nest_parse.proofs.Complete.{taken, skipped, takes_unary, takes_binary}
 use Rattle.nest_parse.proofs.Chains.{handed}
 

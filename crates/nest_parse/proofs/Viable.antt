@@ -1,6 +1,6 @@
 -- Whatever the machine went through begins a program's tokens.
-use Rattle.std.proofs.Common.{◌≡◌, ℕ, zero, suc, ◌+◌, ◌<◌, ◌≤◌, Bool, true, false, Option, Some, None, List, [], ◌∷◌, ◌++◌, refl, sym, ◌∙◌, ap, subst, arith, eqb, eqb-true, leb-true, append_assoc}
-use Rattle.std.specs.Prelude.{nat_le, is_some, ◌&&◌, ℤ, if◌then◌else◌}
+use Rattle.std.proofs.Common.{◌≡◌, ℕ, zero, suc, ◌≤◌, Bool, true, false, Option, Some, None, List, [], ◌∷◌, ◌++◌, refl, sym, ◌∙◌, ap, subst, arith, eqb, eqb-true, leb-true}
+use Rattle.std.specs.Prelude.{nat_le, is_some, ℤ, if◌then◌else◌}
 use denote.Enum.Bare.{sameb, same_true}
 use Rattle.nest_syntax.specs.declared.operators.Un.{Un}
 use Rattle.nest_syntax.specs.declared.operators.Bin.{Bin}
@@ -12,17 +12,15 @@ use Rattle.nest_syntax.specs.declared.tree.Stmt.{Stmt}
 use Rattle.nest_syntax.specs.declared.tree.Loop.{Loop}
 use Rattle.nest_syntax.specs.declared.tree.Decl.{Decl}
 use Rattle.nest_lex.specs.declared.token.Spot.{Spot}
-use Rattle.nest_lex.specs.declared.token.Keyword.{Keyword}
 use Rattle.nest_lex.specs.declared.token.Keyword.TheVariants as word
-use Rattle.nest_lex.specs.declared.token.Mark.{Mark}
 use Rattle.nest_lex.specs.declared.token.Mark.TheVariants as mark
 use Rattle.nest_lex.specs.declared.token.Kind.{Kind}
 use Rattle.nest_lex.specs.declared.token.Kind.TheVariants as kind
 use Rattle.nest_lex.specs.declared.token.Token.{Token}
 use Rattle.nest_lex.specs.contracts.token.Mark.{the_type as mark_type}
 use Rattle.nest_lex.specs.contracts.token.Keyword.{the_type as keyword_type}
-use Rattle.nest_parse.specs.Grammar.{token, sign, keyword, named, numeral, greatest, binary, unary, assignment, comparison, shift, loosest, IsFactor, a_number, a_name, a_word, in_parentheses, signed, IsLevel, tightest, level, IsTail, ended, goes_on, IsExpr, plain, choice, IsStep, behind, before, by, IsStatement, declares, assigns, writes, chooses, turns, IsArm, an_arm, IsElses, no_else, else_if, last_else, IsLoop, a_loop, IsStatements, no_statement, statement, IsSigned, positive, negative, IsDecl, an_array, a_fixed_array, a_scalar, AreDecls, no_decl, declaration, AreLoops, no_loop, a_region, AreProgram, BeginProgram}
-use Rattle.nest_parse.specs.Machine.{Item, This, Word, ThisName, AnyName, AnyNumber, Factor, Subscript, Tail, Choice, Compare, Assigns, Statements, Elses, BehindElse, LoopName, Step, StepTail, Decls, DeclTail, Signed, Loops, level_then, value_then, block_then, loop_then, arm_then, header_then, only_if, with_operand, with_right, takes, skips, or_skip, step, may_end, stuck, start}
+use Rattle.nest_parse.specs.Grammar.{token, sign, keyword, named, numeral, greatest, binary, unary, assignment, comparison, loosest, IsFactor, a_number, a_name, a_word, in_parentheses, signed, IsLevel, tightest, level, IsTail, ended, goes_on, IsExpr, plain, choice, IsStep, behind, before, by, IsStatement, declares, assigns, writes, chooses, turns, IsArm, an_arm, IsElses, no_else, else_if, last_else, IsLoop, a_loop, IsStatements, no_statement, statement, IsSigned, positive, negative, IsDecl, an_array, a_fixed_array, a_scalar, AreDecls, no_decl, declaration, AreLoops, no_loop, a_region, BeginProgram}
+use Rattle.nest_parse.specs.Machine.{Item, This, Word, ThisName, AnyName, AnyNumber, Factor, Subscript, Tail, Choice, Compare, Assigns, Statements, Elses, BehindElse, LoopName, Step, StepTail, Decls, DeclTail, Signed, Loops, level_then, value_then, block_then, arm_then, header_then, only_if, with_operand, with_right, takes, skips, or_skip, step, may_end, stuck, start}
 
 -- one token of a kind
 pub data IsThe (k : Kind) : List Token → List Token → Type 0 where

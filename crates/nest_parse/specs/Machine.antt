@@ -21,7 +21,7 @@ use Rattle.nest_lex.specs.declared.token.Token.{Token}
 use Rattle.nest_lex.specs.contracts.token.Mark.{the_type as mark_type}
 use Rattle.nest_lex.specs.contracts.token.Keyword.{the_type as keyword_type}
 use denote.Enum.Bare.{sameb}
-use Rattle.nest_parse.specs.Grammar.{greatest, binary, unary, assignment, comparison, token, sign, keyword, named, numeral, line, IsFactor, IsLevel, IsExpr, IsStatement, IsStatements, IsArm, IsLoop, IsSigned, IsDecl, AreProgram}
+use Rattle.nest_parse.specs.Grammar.{greatest, binary, unary, assignment, comparison, token, sign, keyword, named, numeral, line, IsFactor, IsLevel, IsExpr, IsStatements, IsArm, IsLoop, IsSigned, IsDecl, AreProgram}
 use Rattle.nest_parse.specs.declared.refused.Stop.{Stop}
 use Rattle.nest_parse.specs.declared.refused.Stop.TheVariants.{Fault}
 

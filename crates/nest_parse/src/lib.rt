@@ -22,4 +22,6 @@ pub use parser::parse;
 pub use refused::{FirstRefused, ParseRefused};
 
 #[cfg(test)]
+mod grammar_tests;
+#[cfg(test)]
 mod tests;

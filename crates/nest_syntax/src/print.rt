@@ -174,12 +174,7 @@ fn add_expr(
     Ok(())
 }
 
-fn add_word(
-    out: &mut Vec<u8>,
-    names: &[Name],
-    array: u32,
-    place: &Expr,
-) -> Result<(), NoMemory>
+fn add_word(out: &mut Vec<u8>, names: &[Name], array: u32, place: &Expr) -> Result<(), NoMemory>
     ensures { OnOk result (out.new.items ≡ out.old.items ++ text.word_text (text.name_text names.now array) (text.expr_text names.now place.now Standing.Alone)) }
 {
     out.extend_from_slice(name_text(names, array))?;
@@ -294,7 +289,10 @@ fn add_stmt(
             out.extend_from_slice(b";\n")?;
         }
         Stmt::Assign {
-            name, op, value, ..
+            name,
+            op,
+            value,
+            ..
         } => {
             out.extend_from_slice(indent)?;
             out.extend_from_slice(name_text(names, *name))?;

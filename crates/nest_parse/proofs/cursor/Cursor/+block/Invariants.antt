@@ -1,4 +1,4 @@
-use Rattle.std.proofs.Common.{ℕ, ◌+◌, ◌*◌, length}
+use Rattle.std.proofs.Common.{◌+◌, ◌*◌, length}
 use Rattle.nest_parse.specs.Grammar.{IsStatements}
 use Rattle.nest_parse.specs.Machine.{Statements}
 use Rattle.nest_parse.proofs.Listing.{Listed}

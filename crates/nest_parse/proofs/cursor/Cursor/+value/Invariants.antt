@@ -1,4 +1,4 @@
-use Rattle.std.proofs.Common.{ℕ, ◌+◌, ◌*◌, length}
+use Rattle.std.proofs.Common.{◌+◌, ◌*◌, length}
 use Rattle.nest_parse.proofs.Values.{Joined}
 use Rattle.nest_parse.proofs.cursor.Cursor.+value.Given as goal
 

@@ -1,4 +1,4 @@
-use Rattle.std.proofs.Common.{refl, ◌∙◌, ◌∷◌}
+use Rattle.std.proofs.Common.{◌∷◌}
 use Rattle.nest_lex.specs.declared.token.Mark.TheVariants as mark
 use Rattle.nest_parse.specs.Machine.{This, value_then}
 use Rattle.nest_parse.proofs.Chains.{refused}

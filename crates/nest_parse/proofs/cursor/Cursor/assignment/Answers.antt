@@ -1,4 +1,4 @@
-use Rattle.std.proofs.Common.{sym, ◌∙◌}
+use Rattle.std.proofs.Common.{sym}
 use Rattle.nest_parse.proofs.Steps.{no_assignment, other_assignment}
 use Rattle.nest_parse.proofs.cursor.Cursor.assignment.Goals as goal
 

@@ -1,4 +1,4 @@
-use Rattle.std.proofs.Common.{sym, ◌∙◌}
+use Rattle.std.proofs.Common.{sym}
 use Rattle.nest_parse.proofs.Steps.{no_comparison, other_comparison}
 use Rattle.nest_parse.proofs.cursor.Cursor.comparison.Goals as goal
 

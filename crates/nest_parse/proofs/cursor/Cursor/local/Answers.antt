@@ -1,4 +1,3 @@
-use Rattle.std.proofs.Common.{refl, ◌∙◌, ◌∷◌}
 use Rattle.nest_parse.specs.Machine.{initial_then}
 use Rattle.nest_parse.proofs.Chains.{refused}
 use Rattle.nest_parse.proofs.Blocks.{local_read}

@@ -1,4 +1,4 @@
-use Rattle.std.proofs.Common.{sym, ◌∙◌}
+use Rattle.std.proofs.Common.{sym}
 use Rattle.nest_parse.proofs.Steps.{no_operator, other_token, other_level}
 use Rattle.nest_parse.proofs.cursor.Cursor.pass_binary.Goals as goal
 

@@ -1,4 +1,3 @@
-use Rattle.std.proofs.Common.{refl, ◌∙◌, ◌∷◌}
 use Rattle.nest_parse.proofs.Chains.{refused}
 use Rattle.nest_parse.proofs.Blocks.{number_there, negative_read, positive_read}
 use Rattle.nest_parse.proofs.cursor.Cursor.scalar.Goals as goal

@@ -1,4 +1,4 @@
-use Rattle.std.proofs.Common.{refl, false}
+use Rattle.std.proofs.Common.{false}
 use Rattle.std.specs.Prelude.{IsTrue}
 use Rattle.nest_parse.proofs.Steps.{no_mark, other_mark}
 use Rattle.nest_parse.proofs.cursor.Cursor.sign.Goals as goal
