@@ -7,3 +7,15 @@ pub mod Equations
 pub mod Counts
 pub mod Names
 pub mod Whole
+pub mod Quiet
+pub mod Complete
+pub mod Viable
+pub mod Fault
+pub mod Unique
+pub mod Steps
+pub mod Chains
+pub mod Values
+pub mod Listing
+pub mod Blocks
+pub mod WellNamed
+pub mod Parsed

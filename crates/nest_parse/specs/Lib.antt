@@ -1,2 +1,4 @@
 pub mod First
 pub mod Reading
+pub mod Grammar
+pub mod Machine

@@ -49,6 +49,13 @@ impl<'a> Cursor<'a> {
         }
     }
 
+    /// How many tokens are left.
+    pub(crate) fn left(&self) -> usize
+        ensures { result ≡ length self.now }
+    {
+        self.rest.len()
+    }
+
     pub(crate) fn is_done(&self) -> bool
         ensures { IsTrue result ↔ (self.now ≡ []) }
     {
@@ -67,7 +74,7 @@ impl<'a> Cursor<'a> {
     }
 
     /// The kind of the token that stands `ahead` places behind the next.
-    fn kind_at(&self, ahead: usize) -> Option<Kind>
+    pub(crate) fn kind_at(&self, ahead: usize) -> Option<Kind>
         ensures { result ≡ kind_at self.now ahead }
     {
         let token = self.rest.get(ahead)?;

@@ -3,13 +3,13 @@ ghost use Rattle.std.specs.Prelude.{◌≡◌, ◌↔◌, IsTrue};
 
 use nest_lex::{Keyword, Kind, Mark};
 
-fn is_same_keyword(left: Keyword, right: Keyword) -> bool
+pub(crate) fn is_same_keyword(left: Keyword, right: Keyword) -> bool
     ensures { IsTrue result ↔ (left ≡ right) }
 {
     left == right
 }
 
-fn is_same_mark(left: Mark, right: Mark) -> bool
+pub(crate) fn is_same_mark(left: Mark, right: Mark) -> bool
     ensures { IsTrue result ↔ (left ≡ right) }
 {
     left == right

@@ -6,15 +6,25 @@
 
 mod build;
 mod cursor;
+mod declaration;
 mod expression;
 mod first;
 mod form;
+mod header;
 mod kinds;
+mod parser;
 mod refused;
+mod statement;
+mod tables;
 mod text;
+mod token_steps;
+mod value;
 
 pub use first::parse_first;
-pub use refused::FirstRefused;
+pub use parser::parse;
+pub use refused::{FirstRefused, ParseRefused};
 
+#[cfg(test)]
+mod grammar_tests;
 #[cfg(test)]
 mod tests;
