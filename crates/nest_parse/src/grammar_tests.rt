@@ -1,6 +1,6 @@
 use crate::{ParseRefused, parse};
 use nest_lex::{LexRefused, lex};
-use nest_syntax::print_program;
+use nest_print::print_program;
 use std::alloc::{AllocError, Global};
 use std::process::Abort;
 use std::test::Fail;

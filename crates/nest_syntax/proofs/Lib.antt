@@ -1,4 +1,3 @@
 pub mod Equations
 pub mod Places
 pub mod Reckoned
-pub mod Printing

@@ -7,4 +7,3 @@ pub mod Course
 pub mod Outcome
 pub mod Named
 pub mod FirstForm
-pub mod Canonical

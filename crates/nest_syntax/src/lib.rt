@@ -7,11 +7,9 @@
 mod names;
 mod operators;
 mod place;
-mod print;
 mod tree;
 
 pub use names::{Line, Name, NoMemory, TaskName};
 pub use operators::{Bin, Cause, Op, Un};
 pub use place::Place;
-pub use print::{Standing, print_program};
 pub use tree::{Arm, Decl, Expr, Loop, Program, Stmt};
