@@ -1,2 +1,3 @@
 pub mod Tallying
 pub mod ByStage
+pub mod Keeping

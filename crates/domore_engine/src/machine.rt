@@ -53,7 +53,7 @@ impl Machine for Domore {
         if answer != Ask::Ready(Work::Turn(row)) {
             return Err(answer);
         }
-        let number = self.number(actor, row);
+        let number = self.number(actor);
         self.make(actor, row);
         Ok(Made { row, number })
     }
