@@ -1,3 +1,4 @@
 pub mod Tallying
 pub mod ByStage
 pub mod Keeping
+pub mod Needing

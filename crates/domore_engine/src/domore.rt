@@ -1,6 +1,7 @@
 ghost use Rattle.std.specs.Prelude.{◌≡◌, ◌<◌, ◌↔◌, IfOk, Some, IsSome, false, replicate};
 ghost use Rattle.std.specs.Option.{option_map};
 ghost use Rattle.nest_syntax.specs.FirstForm.{IsFirstForm};
+ghost use Rattle.nest_mean.specs.Nest.{CanRun};
 ghost use Rattle.progress_board.specs.Options.{IsInRange};
 ghost use Rattle.domore_core.specs.Machine as machine;
 ghost use Rattle.domore_engine.specs.Engine.{opening, step, asked, made_by, move_of, row_of, setup_of, program_in, has_ended, is_finished, words_of, facts_of, ending_of};
@@ -156,6 +157,7 @@ fn open_table(alloc: Global, job: &Job, options: Options) -> Result<Table, NoMem
     ensures state { IfOk result (λ table. state_of table ≡ machine.opening (setup_of job.now options) Position.Region job.now.opening.words) }
     ensures sound { IfOk result (λ table. IsSound (program_in job.now) options.workers table) }
     ensures options { IfOk result (λ table. table.tally.options ≡ options) }
+    ensures runs { CanRun job.now }
 {
     let length = parts_in(job.program()).length;
     let workers = options.workers;
