@@ -2,3 +2,4 @@ pub mod Tallying
 pub mod ByStage
 pub mod Keeping
 pub mod Needing
+pub mod Stepping

@@ -37,7 +37,7 @@ set-past (x ∷ xs) zero v past = absurd (omega arith)
 set-past (x ∷ xs) (suc i) v past = ap (λ ys. x ∷ ys) (set-past xs i v (omega arith))
 
 length-places : (xs : List Listed) → length xs ≤ 64 → length (places_of xs) ≡ 64
-length-places xs few = length-append (map placed xs) (replicate (64 - length xs) None) ∙ (let n : length (map placed xs) ≡ length xs = length-map {f = placed} xs in let k : length (replicate {A = Option Place} (64 - length xs) None) ≡ 64 - length xs = length-replicate (64 - length xs) None in let all : length (map placed xs) + length (replicate {A = Option Place} (64 - length xs) None) ≡ 64 = omega arith in all)
+length-places xs few = length-append (map placed xs) (replicate (64 - length xs) None) ∙ (let n : length (map placed xs) ≡ length xs = length-map xs placed in let k : length (replicate {A = Option Place} (64 - length xs) None) ≡ 64 - length xs = length-replicate (64 - length xs) None in let all : length (map placed xs) + length (replicate {A = Option Place} (64 - length xs) None) ≡ 64 = omega arith in all)
 
 pub listed_more : (xs : List Listed) (waits : ℕ) (x : Listed) → length xs ≡ min waits 64 → set (places_of xs) waits (placed x) ≡ places_of (take 64 (xs ++ x ∷ []))
 listed_more xs waits x count = ⊎_elim room full (cases_lt waits 64)
