@@ -1,13 +1,16 @@
 -- The lists of a tally.
-use Rattle.std.proofs.Common.{◌≡◌, ℕ, zero, suc, ◌+◌, ◌-◌, ◌≤◌, ◌<◌, Bool, true, false, if◌then◌else◌, nat_lt, min, Option, Some, None, List, [], ◌∷◌, ◌++◌, length, map, take, drop, replicate, set, refl, sym, ap, ◌∙◌, subst, arith, ⊎_elim, length-append}
+use Rattle.std.proofs.Common.{◌≡◌, ℕ, zero, suc, ◌+◌, ◌-◌, ◌≤◌, ◌<◌, Bool, true, false, if◌then◌else◌, nat_lt, min, Option, Some, None, List, [], ◌∷◌, ◌++◌, length, map, take, drop, replicate, set, refl, sym, ap, ◌∙◌, subst, arith, ⊎_elim, length-append, append_assoc, append-nil}
+use Rattle.std.specs.List.{count_by}
+use Rattle.std.proofs.lemmas.List.Sums.{sum_by-cons}
+use Rattle.progress_board.specs.declared.options.Options.{Options}
 use Rattle.std.proofs.lemmas.Bool.{cases_lt}
 use Rattle.std.proofs.lemmas.List.{length-replicate, length-map, length-take, take_all, take_at}
 use Rattle.progress_board.specs.declared.facts.Facts.{Facts as Report}
 use Rattle.progress_board.specs.declared.facts.Wait.{Wait as Place}
 use Rattle.domore_core.specs.Waits.{Wait}
-use Rattle.domore_core.specs.Facts.{Facts, Listed, listed_at}
+use Rattle.domore_core.specs.Facts.{Facts, Listed, listed_at, iterated}
 use Rattle.domore_engine.specs.Reports.{wait_of, places_of, report_of}
-use Rattle.domore_engine.specs.Tallies.{Tallied, listed_in, tallied, IsTallied, with_wait}
+use Rattle.domore_engine.specs.Tallies.{Tallied, listed_in, tallied, IsTallied, with_wait, with_waits}
 
 abbrev placed : Listed → Option Place
 placed l = Some (wait_of l)
@@ -88,3 +91,44 @@ module _ (report : Report) (first : ℕ) (w : Wait) (kept : IsTallied report (ta
       let more : report.waits + 1 ≡ suc report.waits = omega arith in
       ap (λ (n : ℕ). let t : Tallied = record (tallied after first) { facts = record (tallied after first).facts { waits = n } } in t) more
       ∙ ap (λ (l : List Listed). let t : Tallied = record (tallied after first) { facts = record (tallied after first).facts { waits = suc report.waits; listed = l } } in t) listed-after
+
+take-first : {A : Type 0} (n : ℕ) (xs ys : List A) → take n (take n xs ++ ys) ≡ take n (xs ++ ys)
+take-first zero front back = refl
+take-first (suc n) [] back = refl
+take-first (suc n) (x ∷ front) back = ap (λ zs. x ∷ zs) (take-first n front back)
+
+abbrev pub handed : Facts → Facts
+handed facts = record facts { iterations = suc facts.iterations }
+
+more_waits : (facts : Facts) (w : Wait) (waits : List Wait) → iterated waits (with_wait facts w) ≡ iterated (w ∷ waits) facts
+more_waits facts w waits =
+    let l = listed_at facts.iterations facts.first w in
+    let ls = map (listed_at facts.iterations facts.first) waits in
+    let counts : suc facts.waits + length waits ≡ facts.waits + suc (length waits) = omega arith in
+    let crosses : facts.crossing + (if nat_lt w.number facts.first then 1 else 0) + count_by (λ (x : Listed). x.crossing) ls ≡ facts.crossing + count_by (λ (x : Listed). x.crossing) (l ∷ ls) =
+        omega (arith, sum_by-cons (λ (x : Listed). if x.crossing then 1 else 0) l ls) in
+    let lists : take 64 (take 64 (facts.listed ++ l ∷ []) ++ ls) ≡ take 64 (facts.listed ++ l ∷ ls) = take-first 64 (facts.listed ++ l ∷ []) ls ∙ ap (take 64) (append_assoc facts.listed (l ∷ []) ls) in
+    ap (λ (n : ℕ). let f : Facts = record (iterated waits (with_wait facts w)) { waits = n } in f) counts
+    ∙ ap (λ (n : ℕ). let f : Facts = record (iterated waits (with_wait facts w)) { waits = facts.waits + suc (length waits); crossing = n } in f) crosses
+    ∙ ap (λ (k : List Listed). let f : Facts = record (iterated (w ∷ waits) facts) { listed = k } in f) lists
+
+with_waits-is : (waits : List Wait) (facts : Facts) → length (with_waits facts waits).listed ≤ 64 → handed (with_waits facts waits) ≡ iterated waits facts
+with_waits-is [] facts few =
+    let counts : facts.waits ≡ facts.waits + 0 = omega arith in
+    let crosses : facts.crossing ≡ facts.crossing + 0 = omega arith in
+    let lists : facts.listed ≡ take 64 (facts.listed ++ []) = sym (ap (take 64) (append-nil facts.listed) ∙ take_all 64 facts.listed few) in
+    ap (λ (n : ℕ). let f : Facts = record (handed facts) { waits = n } in f) counts
+    ∙ ap (λ (n : ℕ). let f : Facts = record (handed facts) { waits = facts.waits + 0; crossing = n } in f) crosses
+    ∙ ap (λ (k : List Listed). let f : Facts = record (handed facts) { waits = facts.waits + 0; crossing = facts.crossing + 0; listed = k } in f) lists
+with_waits-is (w ∷ waits) facts few = with_waits-is waits (with_wait facts w) few ∙ more_waits facts w waits
+
+-- all waits are listed, and the iteration is counted
+pub handed_out : (report : Report) (first : ℕ) (old : Tallied) (waits left : List Wait) → IsTallied report (tallied report first) → left ≡ [] → (tallied report first).options ≡ old.options → with_waits (tallied report first).facts left ≡ with_waits old.facts waits
+    → (let t : Tallied = record { options = (tallied report first).options; facts = handed (tallied report first).facts } in t) ≡ record old { facts = iterated waits old.facts }
+handed_out report first old waits left kept none options same =
+    let done : (tallied report first).facts ≡ with_waits old.facts waits = ap (with_waits (tallied report first).facts) (sym none) ∙ same in
+    let few : length (tallied report first).facts.listed ≤ 64 = omega (arith, kept.count) in
+    let fits : length (with_waits old.facts waits).listed ≤ 64 = subst (λ (f : Facts). length f.listed ≤ 64) done few in
+    ap (λ (o : Options). let t : Tallied = record { options = o; facts = handed (tallied report first).facts } in t) options
+    ∙ ap (λ (f : Facts). let t : Tallied = record { options = old.options; facts = handed f } in t) done
+    ∙ ap (λ (f : Facts). let t : Tallied = record { options = old.options; facts = f } in t) (with_waits-is waits old.facts fits)

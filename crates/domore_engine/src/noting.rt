@@ -101,6 +101,7 @@ impl Shadow {
     // Notes the claims that are there as those of an iteration.
     fn note(&mut self, number: u64)
         requires { 0 < self.old.workers }
+        ensures { self.new.workers ≡ self.old.workers }
     {
         let own = (number % self.workers as u64) as usize;
         let mut from = 0;

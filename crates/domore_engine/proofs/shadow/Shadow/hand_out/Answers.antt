@@ -5,6 +5,3 @@ returns-clause-waits c = ?
 
 pub returns-clause-noted : goal.returns-clause-noted
 returns-clause-noted c = ?
-
-pub returns-clause-workers : goal.returns-clause-workers
-returns-clause-workers c = ?
