@@ -3,3 +3,5 @@ pub mod ByStage
 pub mod Keeping
 pub mod Needing
 pub mod Stepping
+pub mod LastAccesses
+pub mod Updating

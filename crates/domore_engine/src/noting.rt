@@ -1,11 +1,11 @@
-ghost use Rattle.std.specs.Prelude.{◌≡◌, ◌<◌, ◌≤◌, ◌%◌, ℕ, suc, length, IfOk, Some, None, slice_set, slice_index_or};
+ghost use Rattle.std.specs.Prelude.{◌≡◌, ◌<◌, ◌≤◌, ◌%◌, ◌*◌, if◌then◌else◌, ℕ, suc, length, IfOk, Some, None, slice_set, slice_index_or};
 ghost use Rattle.nest_syntax.specs.FirstForm.{IsFirstForm};
 ghost use Rattle.domore_core.specs.Waits.{waits_of};
 ghost use Rattle.first_tasks.specs.Form.{first_of, first_form};
 ghost use Rattle.first_tasks.specs.Iterations.{iteration_numbered};
 ghost use Rattle.first_tasks.specs.Claims.{clashes};
 ghost use Rattle.nest_syntax.specs.declared.tree.Program.{Program as Code};
-ghost use Rattle.domore_engine.specs.Shadows.{IsNoted, later, last_clash, last_below, waits_with};
+ghost use Rattle.domore_engine.specs.Shadows.{IsNoted, later, last_clash, last_below, waits_with, IsUpdated};
 ghost use Rattle.addr_slice.specs.Claims.{words_of};
 
 use crate::shadow::Shadow;
@@ -100,28 +100,28 @@ impl Shadow {
 
     // Notes the claims that are there as those of an iteration.
     fn note(&mut self, number: u64)
-        requires { 0 < self.old.workers }
-        ensures { self.new.workers ≡ self.old.workers }
+        requires some { 0 < self.old.workers }
+        requires read_places { length self.old.reads.items ≡ words_of self.old.claims * self.old.workers }
+        requires write_places { length self.old.writes.items ≡ words_of self.old.claims * self.old.workers }
+        ensures { IsUpdated self.old self.new number (words_of self.old.claims) }
     {
         let own = (number % self.workers as u64) as usize;
         let mut from = 0;
         'words: while let Some(word) = self.claims.next_from(from) {
             let at = word as usize * self.workers as usize + own;
-            if self.claims.has(word, false) {
-                put_at(&mut self.reads, at, number);
-            }
-            if self.claims.has(word, true) {
-                put_at(&mut self.writes, at, number);
-            }
+            let is_read = self.claims.has(word, false);
+            let is_written = self.claims.has(word, true);
+            put_if(&mut self.reads, at, number, is_read);
+            put_if(&mut self.writes, at, number, is_written);
             from = word + 1;
         }
     }
 }
 
-fn put_at(places: &mut [Option<u64>], at: usize, number: u64)
-    ensures { places.new ≡ slice_set places.old at (Some number) }
+fn put_if(places: &mut [Option<u64>], at: usize, number: u64, claimed: bool)
+    ensures { places.new ≡ (if claimed then slice_set places.old at (Some number) else places.old) }
 {
-    if at < places.len() {
+    if claimed && at < places.len() {
         places[at] = Some(number);
     }
 }
