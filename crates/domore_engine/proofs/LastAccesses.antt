@@ -8,6 +8,7 @@ use Rattle.addr_slice.specs.Claims.{Claim, Claimed, has, is_claimed, words_of, n
 use Rattle.domore_core.specs.Waits.{Wait, wait_for, greatest_clash, waits_below}
 use Rattle.first_tasks.specs.Form.{first_of}
 use Rattle.first_tasks.specs.Claims.{collide, clashes, claims_numbered}
+use Rattle.addr_slice.proofs.Walks.{words_of-with_claims}
 use Rattle.first_tasks.proofs.Claimed.{clash_inverse, clash_by_words}
 use Rattle.domore_engine.specs.declared.shadow.Shadow.{Shadow}
 use Rattle.domore_engine.specs.Shadows.{greatest, claims_word, last_access, IsNoted, later, last_clash, last_below, waits_with}
@@ -15,11 +16,11 @@ use Rattle.domore_engine.specs.Shadows.{greatest, claims_word, last_access, IsNo
 -- greatest numbers
 greatest-less : (P : ℕ → Bool) (n a : ℕ) → greatest P n ≡ Some a → a < n
 greatest-less P zero a is = absurd (let no : None ≡ Some a = is in cc)
-greatest-less P (suc n) a is = go (P n) is
+greatest-less P (suc n) a is = go (P n) is (λ e. greatest-less P n a e)
   where
-    go : (t : Bool) → (if t then Some n else greatest P n) ≡ Some a → a < suc n
-    go true e = let same : n ≡ a = cc in omega arith
-    go false e = let less = greatest-less P n a e in omega arith
+    go : (t : Bool) → (if t then Some n else greatest P n) ≡ Some a → (greatest P n ≡ Some a → a < n) → a < suc n
+    go true e rest = let same : n ≡ a = cc in omega arith
+    go false e rest = let less = rest e in omega arith
 
 later-first : (n : ℕ) (o : Option ℕ) → ((b : ℕ) → o ≡ Some b → b < suc n) → later (Some n) o ≡ Some n
 later-first n None less = refl
@@ -189,3 +190,7 @@ waits_same clash width k need zero same = refl
 waits_same clash width k need (suc u) same =
     ap (λ (ws : List Wait). ws ++ (if k % width == u then [] else wait_for u (need u))) (waits_same clash width k need u (λ v less. same v (omega arith)))
     ∙ ap (λ o. waits_below clash width k u ++ (if k % width == u then [] else wait_for u o)) (same u (omega arith))
+
+-- how many words there is room for
+pub words_claimed : (claims : Claimed) (list : List Claim) (n : ℕ) → claims ≡ with_claims (no_claims n) list → words_of claims ≡ n
+words_claimed claims list n is = ap words_of is ∙ words_of-with_claims list (no_claims n) ∙ length-replicate n false

@@ -1,11 +1,12 @@
 -- A table of last accesses, word by word.
 use Rattle.std.proofs.Common.{◌≡◌, ℕ, zero, suc, ◌+◌, ◌*◌, ◌/◌, ◌%◌, ◌≤◌, ◌<◌, Bool, true, false, ◌&&◌, ◌==◌, if◌then◌else◌, nat_lt, Option, Some, None, List, length, get_or, set, refl, sym, ap, ◌∙◌, subst, arith, ⊎_elim, length-set}
-use Rattle.std.proofs.lemmas.Bool.{cases_lt, cases_eq, cases_Bool, lt-ltb, le-ltb, eq-eqb, ne_eqb, and_left, and_right, and_from, cond-true, cond-false, false≢true}
+use Rattle.std.proofs.lemmas.Bool.{cases_lt, cases_eq, cases_Bool, lt-ltb, le-ltb, eq-eqb, ne_eqb, and_left, and_right, and_from, or_left, or_right, cond-true, cond-false, false≢true}
 use Rattle.std.proofs.lemmas.List.{get_or-set_same, get_or-set_other}
-use Rattle.std.proofs.lemmas.Nat.{div-mul-add}
+use Rattle.std.proofs.lemmas.Nat.{div-mul-add, mod_below}
 use Rattle.std.proofs.Math.Nat.{mul-le-mul_left}
-use Rattle.addr_slice.specs.Claims.{IsNext}
-use Rattle.domore_engine.specs.Shadows.{noted_at}
+use Rattle.addr_slice.specs.Claims.{Claimed, IsNext, has, is_claimed, words_of}
+use Rattle.domore_engine.specs.declared.shadow.Shadow.{Shadow}
+use Rattle.domore_engine.specs.Shadows.{noted_at, IsUpdated}
 
 -- places of different words or workers differ
 same_word : (width word other u v : ℕ) → u < width → v < width → word * width + u ≡ other * width + v → word ≡ other
@@ -94,3 +95,36 @@ module _ (width number words : ℕ) (some : 0 < width) (flag claimed : ℕ → B
           not_claimed : flag w ≡ false → get_or (if flag w then set l (w * width + own) (Some number) else l) (word * width + u) None ≡ noted_at number width (w + 1) word u (flag word) (before word u)
           not_claimed none =
               ap (λ b. get_or (if b then set l (w * width + own) (Some number) else l) (word * width + u) None) none ∙ noted word u below worker ∙ behind from word u le ∙ sym (unclaimed (w + 1) word u (ap flag same ∙ none))
+
+length-if : (b : Bool) (l : List (Option ℕ)) (at number : ℕ) → length (if b then set l at (Some number) else l) ≡ length l
+length-if true l at number = length-set l at (Some number)
+length-if false l at number = refl
+
+-- one word more of the iteration is noted
+pub updated_next : (old now new : Shadow) (number from w : ℕ) → 0 < old.workers → length old.reads.items ≡ words_of old.claims * old.workers → length old.writes.items ≡ words_of old.claims * old.workers
+    → IsUpdated old now number from → IsNext (is_claimed now.claims) from (Some w) → w < words_of now.claims → new.claims ≡ now.claims → new.workers ≡ now.workers
+    → new.reads.items ≡ (if has now.claims w false then set now.reads.items (w * now.workers + number % old.workers) (Some number) else now.reads.items)
+    → new.writes.items ≡ (if has now.claims w true then set now.writes.items (w * now.workers + number % old.workers) (Some number) else now.writes.items)
+    → IsUpdated old new number (w + 1)
+updated_next old now new number from w some read_places write_places upd next inside claims workers reads writes =
+    let width = old.workers in
+    let words = words_of old.claims in
+    let mine : number % width < width = mod_below number width some in
+    let there : w < words = subst (λ (c : Claimed). w < words_of c) upd.claims inside in
+    let from_old : IsNext (is_claimed old.claims) from (Some w) = subst (λ (c : Claimed). IsNext (is_claimed c) from (Some w)) upd.claims next in
+    let reads_are : new.reads.items ≡ (if has old.claims w false then set now.reads.items (w * width + number % width) (Some number) else now.reads.items) =
+        reads ∙ ap (λ (c : Claimed). if has c w false then set now.reads.items (w * now.workers + number % width) (Some number) else now.reads.items) upd.claims
+        ∙ ap (λ n. if has old.claims w false then set now.reads.items (w * n + number % width) (Some number) else now.reads.items) upd.workers in
+    let writes_are : new.writes.items ≡ (if has old.claims w true then set now.writes.items (w * width + number % width) (Some number) else now.writes.items) =
+        writes ∙ ap (λ (c : Claimed). if has c w true then set now.writes.items (w * now.workers + number % width) (Some number) else now.writes.items) upd.claims
+        ∙ ap (λ n. if has old.claims w true then set now.writes.items (w * n + number % width) (Some number) else now.writes.items) upd.workers in
+    record {
+      claims = claims ∙ upd.claims;
+      workers = workers ∙ upd.workers;
+      reads = subst (Noted width number words some (λ k. has old.claims k false) (is_claimed old.claims) (λ k h. or_left _ _ h) old.reads.items (w + 1)) (sym reads_are)
+          (noted_next width number words some (λ k. has old.claims k false) (is_claimed old.claims) (λ k h. or_left _ _ h) old.reads.items from w now.reads.items from_old there mine (upd.read_places ∙ read_places) upd.reads);
+      writes = subst (Noted width number words some (λ k. has old.claims k true) (is_claimed old.claims) (λ k h. or_right _ _ h) old.writes.items (w + 1)) (sym writes_are)
+          (noted_next width number words some (λ k. has old.claims k true) (is_claimed old.claims) (λ k h. or_right _ _ h) old.writes.items from w now.writes.items from_old there mine (upd.write_places ∙ write_places) upd.writes);
+      read_places = ap length reads_are ∙ length-if (has old.claims w false) now.reads.items (w * width + number % width) number ∙ upd.read_places;
+      write_places = ap length writes_are ∙ length-if (has old.claims w true) now.writes.items (w * width + number % width) number ∙ upd.write_places;
+    }

@@ -118,8 +118,8 @@ impl Shadow {
     }
 }
 
-fn put_if(places: &mut [Option<u64>], at: usize, number: u64, claimed: bool)
-    ensures { places.new ≡ (if claimed then slice_set places.old at (Some number) else places.old) }
+fn put_if(places: &mut Vec<Option<u64>>, at: usize, number: u64, claimed: bool)
+    ensures { places.new.items ≡ (if claimed then slice_set places.old.items at (Some number) else places.old.items) }
 {
     if claimed && at < places.len() {
         places[at] = Some(number);
