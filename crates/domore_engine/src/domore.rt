@@ -1,6 +1,7 @@
-ghost use Rattle.std.specs.Prelude.{◌≡◌, ◌<◌, ◌↔◌, IfOk, Some, false, replicate};
+ghost use Rattle.std.specs.Prelude.{◌≡◌, ◌<◌, ◌↔◌, IfOk, Some, IsSome, false, replicate};
 ghost use Rattle.std.specs.Option.{option_map};
 ghost use Rattle.nest_syntax.specs.FirstForm.{IsFirstForm};
+ghost use Rattle.nest_mean.specs.Nest.{CanRun};
 ghost use Rattle.progress_board.specs.Options.{IsInRange};
 ghost use Rattle.domore_core.specs.Machine as machine;
 ghost use Rattle.domore_engine.specs.Engine.{opening, step, asked, made_by, move_of, row_of, setup_of, program_in, has_ended, is_finished, words_of, facts_of, ending_of};
@@ -66,16 +67,14 @@ impl Domore {
     }
 
     // The number that the row is reported with.
-    pub(crate) fn number(&self, actor: u8, row: Row) -> u64
-        requires { option_map row_of (move_of self.now actor) ≡ Some row }
+    pub(crate) fn number(&self, actor: u8) -> u64
+        requires { IsSome (move_of self.now actor) }
         ensures { (made_by self.now actor).number ≡ result }
     {
-        match row {
-            Row::End => 0,
-            Row::Take | Row::Pass | Row::Hop | Row::Finish | Row::Trap | Row::Drop => {
-                self.table.number(actor)
-            }
-            _ => self.table.next,
+        if actor < self.options.workers {
+            self.table.number(actor)
+        } else {
+            self.table.next
         }
     }
 
@@ -158,6 +157,7 @@ fn open_table(alloc: Global, job: &Job, options: Options) -> Result<Table, NoMem
     ensures state { IfOk result (λ table. state_of table ≡ machine.opening (setup_of job.now options) Position.Region job.now.opening.words) }
     ensures sound { IfOk result (λ table. IsSound (program_in job.now) options.workers table) }
     ensures options { IfOk result (λ table. table.tally.options ≡ options) }
+    ensures runs { CanRun job.now }
 {
     let length = parts_in(job.program()).length;
     let workers = options.workers;
@@ -177,7 +177,7 @@ fn open_seats(alloc: Global, workers: u8) -> Result<Vec<Seat>, NoMemory>
     ensures { IfOk result (λ seats. seats.items ≡ replicate workers idle_seat) }
 {
     let mut seats = Vec::with_capacity(alloc, workers as usize)?;
-    for _ in 0..workers {
+    'open: while seats.len() < workers as usize {
         seats.push(Seat::open(alloc)?)?;
     }
     Ok(seats)

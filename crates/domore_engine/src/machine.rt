@@ -1,8 +1,10 @@
+ghost use Rattle.std.specs.Prelude.{◌≡◌, ◌↔◌, IsTrue};
+ghost use Rattle.progress_board.specs.Actors.{work_of};
 ghost use Rattle.domore_engine.specs.Engine.{opening, step, asked, made_by, is_finished, ending_of, words_of, facts_of, measure};
 
 use crate::domore::Domore;
 use nest_mean::Job;
-use progress_board::{Ask, Ending, Facts, Given, Machine, Made, Options, Work};
+use progress_board::{Ask, Ending, Facts, Given, Machine, Made, Options, Row, Work};
 use word_store::Words;
 
 impl Machine for Domore {
@@ -49,11 +51,11 @@ impl Machine for Domore {
 
     fn give(&mut self, actor: u8, given: Given) -> Result<Made, Ask> {
         let answer = self.ask(actor);
-        let Given::Turn(row) = given;
-        if answer != Ask::Ready(Work::Turn(row)) {
+        let row = row_given(given);
+        if !hands_out(answer, row) {
             return Err(answer);
         }
-        let number = self.number(actor, row);
+        let number = self.number(actor);
         self.make(actor, row);
         Ok(Made { row, number })
     }
@@ -91,4 +93,19 @@ impl Machine for Domore {
     ghost finishes = { λ m legal. finishes m legal.allowed legal.reached };
 
     ghost falls = { λ m n actor legal e. falls m n actor legal.allowed legal.reached e };
+}
+
+fn row_given(given: Given) -> Row
+    ensures { work_of given ≡ Work.Turn result }
+{
+    match given {
+        Given::Turn(row) => row,
+    }
+}
+
+// Whether an answer hands out this row.
+fn hands_out(answer: Ask, row: Row) -> bool
+    ensures { IsTrue result ↔ (answer ≡ Ask.Ready (Work.Turn row)) }
+{
+    answer == Ask::Ready(Work::Turn(row))
 }

@@ -1,11 +1,12 @@
-ghost use Rattle.std.specs.Prelude.{◌≡◌, ◌<◌, ◌≤◌, ◌%◌, ℕ, suc, length, IfOk};
+ghost use Rattle.std.specs.Prelude.{◌≡◌, ◌<◌, ◌≤◌, ◌%◌, ◌*◌, if◌then◌else◌, ℕ, suc, length, IfOk, Some, None, slice_set, slice_index_or};
 ghost use Rattle.nest_syntax.specs.FirstForm.{IsFirstForm};
 ghost use Rattle.domore_core.specs.Waits.{waits_of};
 ghost use Rattle.first_tasks.specs.Form.{first_of, first_form};
 ghost use Rattle.first_tasks.specs.Iterations.{iteration_numbered};
 ghost use Rattle.first_tasks.specs.Claims.{clashes};
 ghost use Rattle.nest_syntax.specs.declared.tree.Program.{Program as Code};
-ghost use Rattle.domore_engine.specs.Shadows.{IsNoted};
+ghost use Rattle.domore_engine.specs.Shadows.{IsNoted, later, last_clash, last_below, waits_with, IsUpdated};
+ghost use Rattle.addr_slice.specs.Claims.{words_of};
 
 use crate::shadow::Shadow;
 use crate::tasks::claim;
@@ -53,11 +54,11 @@ impl Shadow {
     fn waits(&self, number: u64) -> ArrayVec<Wait, 8>
         requires few { self.now.workers ≤ 8 }
         requires some { 0 < self.now.workers }
-        ensures length { length result.items ≤ 8 }
+        ensures { result.items ≡ waits_with (λ u. last_below self.now u (words_of self.now.claims)) (number % self.now.workers) self.now.workers }
     {
         let own = (number % self.workers as u64) as u8;
         let mut waits = ArrayVec::new();
-        for worker in 0..self.workers {
+        'workers: for worker in 0..self.workers {
             if worker == own {
                 continue;
             }
@@ -73,10 +74,11 @@ impl Shadow {
 
     // The greatest iteration of a worker whose claims clash with those that are there.
     fn need(&self, worker: u8) -> Option<u64>
+        ensures { result ≡ last_below self.now worker (words_of self.now.claims) }
     {
         let mut need = None;
         let mut from = 0;
-        while let Some(word) = self.claims.next_from(from) {
+        'words: while let Some(word) = self.claims.next_from(from) {
             need = later(need, self.last_clash(word, worker));
             from = word + 1;
         }
@@ -85,11 +87,12 @@ impl Shadow {
 
     // The last of its iterations that clashes at a word that is claimed.
     fn last_clash(&self, word: u32, worker: u8) -> Option<u64>
+        ensures { result ≡ last_clash self.now worker word }
     {
         let at = word as usize * self.workers as usize + worker as usize;
-        let write = self.writes.get(at).copied().flatten();
+        let write = place_at(&self.writes, at);
         if self.claims.has(word, true) {
-            later(write, self.reads.get(at).copied().flatten())
+            later(write, place_at(&self.reads, at))
         } else {
             write
         }
@@ -97,34 +100,47 @@ impl Shadow {
 
     // Notes the claims that are there as those of an iteration.
     fn note(&mut self, number: u64)
-        requires { 0 < self.old.workers }
+        requires some { 0 < self.old.workers }
+        requires read_places { length self.old.reads.items ≡ words_of self.old.claims * self.old.workers }
+        requires write_places { length self.old.writes.items ≡ words_of self.old.claims * self.old.workers }
+        ensures { IsUpdated self.old self.new number (words_of self.old.claims) }
     {
         let own = (number % self.workers as u64) as usize;
         let mut from = 0;
-        while let Some(word) = self.claims.next_from(from) {
+        'words: while let Some(word) = self.claims.next_from(from) {
             let at = word as usize * self.workers as usize + own;
-            if self.claims.has(word, false) {
-                put_at(&mut self.reads, at, number);
-            }
-            if self.claims.has(word, true) {
-                put_at(&mut self.writes, at, number);
-            }
+            let is_read = self.claims.has(word, false);
+            let is_written = self.claims.has(word, true);
+            put_if(&mut self.reads, at, number, is_read);
+            put_if(&mut self.writes, at, number, is_written);
             from = word + 1;
         }
     }
 }
 
-fn put_at(places: &mut [Option<u64>], at: usize, number: u64) {
-    if at < places.len() {
+fn put_if(places: &mut Vec<Option<u64>>, at: usize, number: u64, claimed: bool)
+    ensures { places.new.items ≡ (if claimed then slice_set places.old.items at (Some number) else places.old.items) }
+{
+    if claimed && at < places.len() {
         places[at] = Some(number);
     }
 }
 
+fn place_at(places: &[Option<u64>], at: usize) -> Option<u64>
+    ensures { result ≡ slice_index_or places.now at None }
+{
+    if at < places.len() { places[at] } else { None }
+}
+
 // The greater of two, where there are two.
-fn later(first: Option<u64>, second: Option<u64>) -> Option<u64> {
-    match (first, second) {
-        (Some(first), Some(second)) => Some(first.max(second)),
-        (Some(first), None) => Some(first),
-        (None, second) => second,
+fn later(first: Option<u64>, second: Option<u64>) -> Option<u64>
+    ensures { result ≡ later first second }
+{
+    match first {
+        None => second,
+        Some(first) => match second {
+            None => Some(first),
+            Some(second) => Some(first.max(second)),
+        },
     }
 }

@@ -8,9 +8,12 @@ use Rattle.nest_syntax.specs.declared.tree.Program.{Program}
 use Rattle.nest_syntax.specs.Arrays.{arrays_of, sizes_of}
 use Rattle.nest_syntax.specs.Value.{scalar_at}
 use Rattle.nest_syntax.specs.Turn.{Turn, Finished, Trapped, Load, Store, Op, Go}
-use Rattle.nest_syntax.specs.FirstForm.{First, IsFirstForm}
-use Rattle.addr_slice.specs.Claims.{Claim, Claimed, has, is_set, no_claims, with_claim, with_claims}
-use Rattle.addr_slice.specs.Walk.{claims_of}
+use Rattle.nest_syntax.specs.FirstForm.{First, IsFirstForm, IsKept}
+use Rattle.addr_slice.specs.Claims.{Claim, Claimed, has, is_set, no_claims, with_claim, with_claims, words_of}
+use Rattle.addr_slice.specs.Walk.{claims_of, scalars_with}
+use Rattle.addr_slice.proofs.Held.{AllClaimed, claimed-from_list}
+use Rattle.addr_slice.proofs.Held as Held
+use Rattle.addr_slice.proofs.Room.{walk_of_write-within}
 use Rattle.addr_slice.specs.Within as slice
 use Rattle.addr_slice.proofs.Turns.{hold}
 use Rattle.settle_law.specs.Cuts.{Cut, cut, plain, is_full, one_more}
@@ -139,3 +142,51 @@ module _ (program : Program) (form : IsFirstForm program) (words : List ℤ) whe
 
   pub apart : (j k : ℕ) → clashes program j k ≡ false → Apart (family_of (λ w. None) nest j) (family_of (λ w. None) nest k)
   apart j k none = apart-from_claims (claims_by (claims_word j)) (claims_by (claims_word k)) (family_of (λ w. None) nest j) (family_of (λ w. None) nest k) (family_held j) (family_held k) (no_clash j k none)
+
+-- each claim of an iteration is in the set that is made of its claims, of words of the array
+pub all_claimed : (program : Program) → IsKept (first_of program) → (number : ℕ) → AllClaimed (has (with_claims (no_claims (first_of program).length) (claims_numbered program number))) (claims_numbered program number)
+unfolding claims_in
+all_claimed program kept number =
+    let first = first_of program in
+    let scalars = scalars_in program (iteration_numbered first number) in
+    let list = claims_numbered program number in
+    let as_many : words_of (no_claims first.length) ≡ first.length = length-replicate first.length false in
+    let within = walk_of_write-within first.array first.length first.outer.name first.inner.name (scalars_with first.outer.name (scalar_at scalars first.outer.name) first.inner.name (scalar_at scalars first.inner.name)) first.place first.value kept.value in
+    claimed-from_list list (no_claims first.length) refl (Held.Each-along (λ c. c.word < first.length) (λ c. c.word < words_of (no_claims first.length)) list (λ c below. omega (arith, below, as_many)) within)
+
+-- iterations that clash have two claims that collide
+pub any_inverse : (P : Claim → Type 0) (test : Claim → Bool) (list : List Claim) → list_any test list ≡ true → Held.Each P list → (c : Claim) × P c × (test c ≡ true)
+any_inverse P test [] is all = absurd (false≢true is)
+any_inverse P test (c ∷ list) is all = ⊎_elim (λ (here : test c ≡ true). (c, all.0, here)) (λ (later : list_any test list ≡ true). any_inverse P test list later all.1) (or_cases (test c) (list_any test list) is)
+
+pub all_within : (program : Program) → IsKept (first_of program) → (number : ℕ) → Held.Each (λ c. c.word < (first_of program).length) (claims_numbered program number)
+unfolding claims_in
+all_within program kept number =
+    let first = first_of program in
+    let scalars = scalars_in program (iteration_numbered first number) in
+    walk_of_write-within first.array first.length first.outer.name first.inner.name (scalars_with first.outer.name (scalar_at scalars first.outer.name) first.inner.name (scalar_at scalars first.inner.name)) first.place first.value kept.value
+
+each_both : (P Q : Claim → Type 0) (list : List Claim) → Held.Each P list → Held.Each Q list → Held.Each (λ c. P c × Q c) list
+each_both P Q [] p q = tt
+each_both P Q (c ∷ list) p q = ((p.0, q.0), each_both P Q list p.1 q.1)
+
+pub record IsClash (program : Program) (j k : ℕ) : Type 0 where
+  pub first : Claim
+  pub second : Claim
+  pub of_first : has (with_claims (no_claims (first_of program).length) (claims_numbered program j)) first.word first.write ≡ true
+  pub of_second : has (with_claims (no_claims (first_of program).length) (claims_numbered program k)) second.word second.write ≡ true
+  pub inside : second.word < (first_of program).length
+  pub collides : collide first second ≡ true
+
+pub clash_inverse : (program : Program) → IsKept (first_of program) → (j k : ℕ) → clashes program j k ≡ true → IsClash program j k
+unfolding clashes
+clash_inverse program kept j k is =
+    let claims = λ (n : ℕ) (c : Claim). has (with_claims (no_claims (first_of program).length) (claims_numbered program n)) c.word c.write ≡ true in
+    let first = any_inverse (claims j) (λ (c : Claim). list_any (collide c) (claims_numbered program k)) (claims_numbered program j) is (all_claimed program kept j) in
+    let second = any_inverse (λ c. claims k c × (c.word < (first_of program).length)) (collide first.0) (claims_numbered program k) first.2 (each_both (claims k) (λ c. c.word < (first_of program).length) (claims_numbered program k) (all_claimed program kept k) (all_within program kept k)) in
+    record { first = first.0; second = second.0; of_first = first.1; of_second = second.1.0; inside = second.1.1; collides = second.2 }
+
+-- and the other way round
+pub clash_by_words : (program : Program) (j k w : ℕ) (v u : Bool) → has (with_claims (no_claims (first_of program).length) (claims_numbered program j)) w v ≡ true → has (with_claims (no_claims (first_of program).length) (claims_numbered program k)) w u ≡ true → (v || u) ≡ true → clashes program j k ≡ true
+unfolding clashes
+clash_by_words program j k w v u first second writes = clash_at_word (claims_numbered program j) (claims_numbered program k) w v u (listed (claims_numbered program j) (first_of program).length w v first) (listed (claims_numbered program k) (first_of program).length w u second) writes

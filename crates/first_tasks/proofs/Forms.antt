@@ -109,7 +109,7 @@ first-of_form program form =
     ∙ ap (λ test. if test then form.first else no_iterations) (kept_is form.first form.kept)
 
 -- each program counts as one of the first form, and one of the first form as itself
-pub form_of : (program : Program) → IsFirstForm (first_form program)
+abbrev pub form_of : (program : Program) → IsFirstForm (first_form program)
 form_of program = record { first = first_of program; kept = first-kept program; decls = refl; regions = refl }
 
 pub own_form : (program : Program) → IsFirstForm program → first_form program ≡ program

@@ -1,0 +1,34 @@
+use Rattle.std.proofs.Common.{◌≡◌, ℕ, length, ap, sym, ◌∙◌, arith, refl}
+use Rattle.std.proofs.lemmas.List.{length-replicate}
+use Rattle.nest_syntax.specs.declared.tree.Program.{Program}
+use Rattle.nest_syntax.specs.Arrays.{arrays_of, sizes_of}
+use Rattle.word_store.specs.Memory.{Memory}
+use Rattle.first_tasks.specs.Form.{first_of, first_form}
+use Rattle.first_tasks.proofs.Forms.{first-kept, own_form}
+use Rattle.domore_engine.specs.Engine.{program_in}
+use Rattle.domore_engine.specs.Tables.{idle_seat}
+use Rattle.domore_engine.specs.Tallies.{Tallied}
+use Rattle.domore_engine.proofs.domore.open_table.Goals as goal
+
+pub open-requires-2-clause-words : goal.open-requires-2-clause-words
+open-requires-2-clause-words c = omega (arith, c.parts_in-length.ensures.size, (first-kept (first_form c.program.result.now)).few_words)
+
+pub returns-clause-sound : goal.returns-clause-sound
+returns-clause-sound c =
+    let job = c.args.job.now in
+    let tally = c.open.ensures in
+    record {
+      few_workers = c.requires.allowed.few_workers;
+      some_worker = omega (arith, c.requires.allowed.some_worker);
+      seats = ap length c.in_ok-open_seats.ensures ∙ length-replicate c.args.options.workers idle_seat;
+      sizes = ap (λ (m : Memory). m.sizes) c.in_ok-copy.ensures ∙ ap (λ (m : Memory). m.sizes) c.words.ensures.same ∙ c.words.ensures.runs.sizes ∙ ap (λ (p : Program). sizes_of (arrays_of p.decls)) (sym (own_form job.program c.requires.form));
+      placed = record {
+        within = tt;
+        passed = refl;
+        begun = ap (λ (t : Tallied). t.facts.invocations) tally;
+        iterations = ap (λ (t : Tallied). t.facts.iterations) tally;
+        waits = omega (arith, ap (λ (t : Tallied). t.facts.waits) tally);
+        crossing = omega (arith, ap (λ (t : Tallied). t.facts.crossing) tally);
+      };
+      noted = c.in_ok-open.ensures (program_in job) (ap (λ (p : Program). (first_of (first_form p)).length) (sym c.program.ensures.same) ∙ sym c.parts_in-length.ensures.size);
+    }

@@ -1,0 +1,10 @@
+use Rattle.std.proofs.Common.{◌≡◌, ◌-◌, ◌≤◌}
+use Rattle.addr_slice.specs.Claims.{words_of}
+use Rattle.domore_engine.specs.Shadows.{last_below}
+use Rattle.domore_engine.proofs.shadow.Shadow.need.Given as goal
+
+abbrev pub invariant-words : goal.invariant-words
+invariant-words l = (l.from ≤ words_of l.self.claims) × (l.need ≡ last_below l.self l.worker l.from)
+
+abbrev pub decreases-words : goal.decreases-words
+decreases-words l = words_of l.self.claims - l.from
