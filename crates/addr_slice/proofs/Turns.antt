@@ -25,8 +25,8 @@ hold program form outer inner scalars at words room =
     let as_many : words_of (no_claims words) ≡ words = length-replicate words false in
     let within = walk_of_write-within first.array first.length first.outer.name first.inner.name (scalars_with first.outer.name outer first.inner.name inner) first.place first.value form.kept.value in
     let all = claimed-from_list list (no_claims words) refl
-        (Each-along (λ c. c.word < first.length) (λ c. c.word < words_of (no_claims words)) list (λ c below. omega (arith, below, as_many, room)) within) in
+    (Each-along (λ c. c.word < first.length) (λ c. c.word < words_of (no_claims words)) list (λ c below. omega (arith, below, as_many, room)) within) in
     let held = write-held first.array first.length first.outer.name first.inner.name outer inner scalars claimed form.kept.outer_inner at.of_outer at.of_inner first.place first.value form.kept.place form.kept.value all first.write_line Finished tt in
     subst (λ (decls : List Decl). Within (sizes_of (arrays_of decls)) claimed (turn_in (arrays_of decls) (bodies_of program) 0 scalars)) (sym form.decls)
-      (subst (λ (bodies : List (List Stmt)). Within (sizes_of (arrays_of (decls_of first))) claimed (turn_in (arrays_of (decls_of first)) bodies 0 scalars)) (sym (bodies-of_first program form))
-        (subst (λ (turn : Turn). Within (sizes_of (arrays_of (decls_of first))) claimed turn) (sym (turn-of_write (arrays_of (decls_of first)) first scalars)) held))
+    (subst (λ (bodies : List (List Stmt)). Within (sizes_of (arrays_of (decls_of first))) claimed (turn_in (arrays_of (decls_of first)) bodies 0 scalars)) (sym (bodies-of_first program form))
+    (subst (λ (turn : Turn). Within (sizes_of (arrays_of (decls_of first))) claimed turn) (sym (turn-of_write (arrays_of (decls_of first)) first scalars)) held))

@@ -11,7 +11,6 @@ use Rattle.nest_syntax.specs.Arrays.{arrays_of, sizes_of}
 use Rattle.cross_cli.specs.declared.status.Status.TheVariants as status
 use Rattle.cross_cli.specs.declared.top.Unanswered.{Unanswered}
 use Rattle.cross_cli.specs.declared.words.Action.{Action}
-use Rattle.cross_cli.specs.declared.words.Action.TheVariants.{Plain, Alone}
 use Rattle.cross_cli.specs.Answers.{Answer, refusal, acted, zeros_of, job_of, AnswersInput, too_long, no_text, a_text}
 use Rattle.cross_cli.specs.Ends.{TakesInput, IsDueTo}
 

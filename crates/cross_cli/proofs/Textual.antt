@@ -1,5 +1,5 @@
 -- What a finished engine tells is what is due: the outcome of textual order, and the facts of the nest.
-use Rattle.std.proofs.Common.{◌≡◌, ℕ, Bool, true, false, ◌++◌, ℤ, List, [], Option, None, Some, refl, sym, subst, ap, ◌∙◌, arith, lit≤}
+use Rattle.std.proofs.Common.{◌≡◌, ℕ, Bool, true, false, ◌++◌, ◌≤◌, ℤ, Result, Ok, Err, IfOk, length, ◌∷◌, List, [], Option, None, Some, refl, sym, subst, ap, ◌∙◌, arith, lit≤}
 use Rattle.std.specs.Option.{option_map_or}
 use Rattle.std.proofs.lemmas.Bool.{cond-true}
 use Rattle.nest_syntax.specs.declared.place.Place.{Place}
@@ -15,7 +15,7 @@ use Rattle.domore_core.specs.Theorems.{IsSetupFor, Leads, Completes}
 use Rattle.domore_core.proofs.Runs.{ends_as, counts_as}
 use Rattle.progress_board.specs.declared.facts.Ending.TheVariants as ends
 use Rattle.progress_board.specs.Options.{IsInRange}
-use Rattle.progress_board.specs.Runs.{run}
+use Rattle.progress_board.specs.Runs.{run, Agrees}
 use Rattle.first_tasks.specs.declared.position.Iteration.{Iteration}
 use Rattle.first_tasks.specs.declared.position.Position.{Position}
 use Rattle.first_tasks.specs.declared.position.Position.TheVariants.{Region}
@@ -23,10 +23,17 @@ use Rattle.first_tasks.specs.Iterations.{cut_turn}
 use Rattle.first_tasks.specs.Pieces.{Piece}
 use Rattle.first_tasks.proofs.Forms.{form_of, own_form}
 use Rattle.first_tasks.proofs.Setups.{right}
-use Rattle.domore_engine.specs.Engine.{Engine, Table, setup_of, nest_in, program_in, opening, step, is_finished, ending_of, ending_at}
+use Rattle.domore_engine.specs.Engine.{Engine, Table, measure, setup_of, nest_in, program_in, opening, step, is_finished, ending_of, ending_at}
 use Rattle.domore_engine.specs.Laws.{IsLed, led}
 use Rattle.domore_engine.specs.Reports.{report_of}
-use Rattle.cross_cli.specs.Answers.{Answer, alone_options, facts_due, rotation_of, reported}
+use Rattle.nest_syntax.specs.Arrays.{arrays_of}
+use Rattle.nest_syntax.specs.declared.tree.Decl.{Decl}
+use Rattle.nest_syntax.specs.declared.tree.Decl.TheVariants as decl
+use Rattle.nest_syntax.specs.declared.names.NoMemory.{NoMemory}
+use Rattle.progress_board.specs.declared.options.Options.{Options}
+use Rattle.progress_board.specs.Actors.{actors_of}
+use Rattle.progress_board.specs.Rotation.{rotation}
+use Rattle.cross_cli.specs.Answers.{Answer, alone_options, facts_due, rotation_of, reported, job_of}
 use Rattle.cross_cli.specs.Told.{told, told_at}
 
 setup_right : (job : Nest) → IsSetupFor (setup_of job alone_options) (nest_in job) (cut_turn (program_in job)) Region
@@ -69,3 +76,20 @@ told_due job form history e ran finished =
     let way = led history (opening job alone_options) e ran in
     subst (λ (f : Engine). told f (rotation_of job) ≡ reported job (ending job.program job.opening.words)) (sym way.new)
     (told_is job form history way.state way.leads (subst (λ (f : Engine). is_finished f ≡ true) way.new finished))
+
+-- what `alone` answers, from what its calls leave
+pub alone_due : (r : Result Answer NoMemory) (job : Nest) → IsFirstForm job.program → job ≡ job_of job.program job.opening.words → (options : Options) → options ≡ alone_options → (start e : Engine) → start ≡ opening job options
+    → (before after : List ℕ) → before ≡ [] → after ≡ before ++ rotation step measure start (actors_of start.options) [] → Agrees step start before e after → is_finished e ≡ true
+    → IfOk r (λ reply. reply ≡ told e after) → IfOk r (λ reply. reply ≡ reported (job_of job.program job.opening.words) (ending job.program job.opening.words))
+alone_due (Err x) job form own options o start e s before after b t a finished h = tt
+alone_due (Ok reply) job form own options o start e s before after b t a finished h =
+    let start_is : start ≡ opening job alone_options = s ∙ ap (λ (x : Options). opening job x) o in
+    let after_is : after ≡ rotation_of job = t ∙ ap (λ (x : List ℕ). x ++ rotation step measure start (actors_of start.options) []) b ∙ ap (λ (x : Engine). rotation step measure x (actors_of x.options) []) start_is in
+    let ran : run step (opening job alone_options) a.made ≡ Some e = subst (λ (x : Engine). run step x a.made ≡ Some e) start_is a.ran in
+    h ∙ ap (λ (x : List ℕ). told e x) after_is ∙ told_due job form a.made e ran finished ∙ ap (λ (j : Nest). reported j (ending job.program job.opening.words)) own
+
+-- there are no more arrays than declarations
+pub few_arrays : (decls : List Decl) → length (arrays_of decls) ≤ length decls
+few_arrays [] = omega arith
+few_arrays (decl.Array line name size fixed ∷ decls) = omega (arith, few_arrays decls)
+few_arrays (decl.Scalar line name value ∷ decls) = omega (arith, few_arrays decls)

@@ -2,7 +2,7 @@
 use Rattle.std.proofs.Common.{◌≡◌, ◌≢◌, ℕ, ◌<◌, ℤ, List, length, Option, Some, None, refl, sym, subst}
 use Rattle.std.specs.Io.KnownBytes.{Keeps, Appends}
 use Rattle.nest_io.specs.Stream.{AppendsPart}
-use Rattle.nest_syntax.specs.Outcome.{Ending, Done, TrappedAt}
+use Rattle.nest_syntax.specs.Outcome.{Ending, Done, TrappedAt, ending}
 use Rattle.nest_syntax.specs.declared.tree.Program.{Program}
 use Rattle.cross_cli.specs.declared.status.Status.{Status}
 use Rattle.cross_cli.specs.declared.status.Status.TheVariants as status
@@ -10,7 +10,7 @@ use Rattle.cross_cli.specs.declared.words.Action.{Action}
 use Rattle.cross_cli.specs.declared.words.Action.TheVariants.{Plain, Alone}
 use Rattle.nest_mean.specs.Nest.{Nest}
 use Rattle.cross_cli.specs.Words.{action_of}
-use Rattle.cross_cli.specs.Answers.{Answer, AnswersInput, printed, reported, acted, too_long, no_text, a_text}
+use Rattle.cross_cli.specs.Answers.{Answer, AnswersInput, printed, reported, acted, job_of, too_long, no_text, a_text}
 use Rattle.cross_cli.specs.Ends.{IsDue, IsDueTo, Ends}
 
 -- what is untold or told is kept where nothing happens
@@ -38,7 +38,7 @@ reported_answers job (TrappedAt place) = tt
 
 acted_answers : (action : Action) (program : Program) (words : List ℤ) → IsAnswering (acted action program words).status
 acted_answers Plain program words = printed_answers program _
-acted_answers Alone program words = reported_answers _ _
+acted_answers Alone program words = reported_answers (job_of program words) (ending program words)
 
 input_answers : (action : Action) (input : List ℕ) (answer : Answer) → AnswersInput action input answer → IsAnswering answer.status
 input_answers action input answer (too_long long) = tt

@@ -1,9 +1,11 @@
 ghost use Rattle.std.specs.Prelude.{◌≡◌, true, IfOk};
 ghost use Rattle.nest_syntax.specs.FirstForm.{IsFirstForm};
+ghost use Rattle.nest_report.specs.Text.{array_lines};
 ghost use Rattle.domore_engine.specs.Engine.{is_finished, ending_of};
 ghost use Rattle.progress_board.specs.Runs.{IsLegal};
 ghost use Rattle.domore_engine.specs.Engine.{opening, step};
 ghost use Rattle.cross_cli.specs.Answers.{acted, alone_options, job_of};
+ghost use Rattle.cross_cli.specs.declared.words.Action.TheVariants.{Alone};
 ghost use Rattle.cross_cli.specs.Told.{told, done_text};
 
 use crate::answers::Reply;
@@ -16,12 +18,13 @@ use nest_report::{print_place, print_words};
 use nest_syntax::NoMemory;
 use progress_board::{Ending, Engine, Machine, Options, Sign};
 use std::alloc::Global;
+use word_store::Words;
 
 /// The outcome of a job by the engine `domore` on one thread, by the rotation, with its report.
 pub fn alone(alloc: Global, job: Job) -> Result<Reply, NoMemory>
     requires form { IsFirstForm job.program }
     requires own { job ≡ job_of job.program job.opening.words }
-    ensures { IfOk result (λ reply. reply ≡ acted Action.Alone job.program job.opening.words) }
+    ensures { IfOk result (λ reply. reply ≡ acted Alone job.program job.opening.words) }
 {
     let mut machine = Domore::open(alloc, job, alone_options())?;
     let mut history = Vec::new(alloc);
@@ -72,14 +75,23 @@ fn told(alloc: Global, machine: &Domore, history: Vec<u8>) -> Result<Reply, NoMe
 fn done_text(alloc: Global, machine: &Domore) -> Result<Vec<u8>, NoMemory>
     ensures { IfOk result (λ text. text.items ≡ done_text machine.now) }
 {
-    let program = machine.job().program();
-    let mut text = print_words(
+    let mut text = arrays_text(alloc, machine.job(), machine.words())?;
+    let report = domore_report(alloc, machine.facts())?;
+    text.extend_from_slice(report.as_slice())?;
+    Ok(text)
+}
+
+/// The arrays of a job, with these words.
+fn arrays_text(alloc: Global, job: &Job, words: &Words) -> Result<Vec<u8>, NoMemory>
+    requires { words.now.sizes ≡ job.now.opening.sizes }
+    ensures { IfOk result (λ text. text.items ≡ array_lines job.now.program.names words.now 0 job.now.program.decls) }
+{
+    let program = job.program();
+    let text = print_words(
         alloc,
-        machine.words(),
+        words,
         program.names.as_slice(),
         program.decls.as_slice(),
     )?;
-    let report = domore_report(alloc, machine.facts())?;
-    text.extend_from_slice(report.as_slice())?;
     Ok(text)
 }

@@ -110,7 +110,7 @@ module _ (program : Program) (form : IsFirstForm program) (words : List ℤ) whe
       let scalars = scalars_in program (iteration_numbered first number) in
       let by_parts = λ (f : First). (claims_of f (scalar_at scalars f.outer.name) (scalar_at scalars f.inner.name)).claims in
       subst (λ (f : First). slice.Within (sizes_of (arrays_of program.decls)) (has (with_claims (no_claims form.first.length) (by_parts f))) (turn_at program (iteration_numbered first number))) (sym (first-of_form program form))
-        (hold program form (scalar_at scalars form.first.outer.name) (scalar_at scalars form.first.inner.name) scalars (record { of_outer = refl; of_inner = refl }) form.first.length (omega arith))
+      (hold program form (scalar_at scalars form.first.outer.name) (scalar_at scalars form.first.inner.name) scalars (record { of_outer = refl; of_inner = refl }) form.first.length (omega arith))
 
   family_held : (number : ℕ) → Within (claims_by (claims_word number)) (family_of (λ w. None) nest number)
   unfolding cut_turn
@@ -120,8 +120,9 @@ module _ (program : Program) (form : IsFirstForm program) (words : List ℤ) whe
       inside below =
           let it = iteration-numbered program form words number below in
           subst (λ (o : Option (ℕ × List ℤ)). Within (claims_by (claims_word number)) (option_map_or (λ (i : ℕ × List ℤ). plain (λ w. None) (cut_at nest i)) o tree.Finished)) (sym it.is)
-            (subst (λ c. Within (claims_by (claims_word number)) (plain (λ w. None) c)) it.same
-              (within_tree (sizes_of (arrays_of program.decls)) (claims_word number) (turn_at program (iteration_numbered first number)) 0 (turn_held number)))
+          (subst (λ c. Within (claims_by (claims_word number)) (plain (λ w. None) c)) it.same
+          (within_tree (sizes_of (arrays_of program.decls)) (claims_word number) (turn_at program (iteration_numbered first number)) 0 (turn_held number)))
+
       behind : count_of first.outer * count_of first.inner ≤ number → Within (claims_by (claims_word number)) (family_of (λ w. None) nest number)
       behind past = subst (λ (o : Option (ℕ × List ℤ)). Within (claims_by (claims_word number)) (option_map_or (λ (i : ℕ × List ℤ). plain (λ w. None) (cut_at nest i)) o tree.Finished)) (sym (none_behind program form words number past)) tt
 

@@ -98,6 +98,7 @@ first-kept program = read (read_parts program.decls program.regions)
     tested : (first : First) (test : Bool) → is_kept first ≡ test → IsKept (if test then first else no_iterations)
     tested first true is = is_kept-true first is
     tested first false is = no_iterations-kept
+
     read : (o : Option First) → IsKept (option_map_or (λ (first : First). if is_kept first then first else no_iterations) o no_iterations)
     read None = no_iterations-kept
     read (Some first) = tested first (is_kept first) refl

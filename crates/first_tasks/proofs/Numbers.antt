@@ -91,6 +91,7 @@ module _ (program : Program) (form : IsFirstForm program) (words : List ℤ) whe
       some_of : (n : ℕ) → number < count_of first.outer * n → 0 < n
       some_of zero h = absurd (omega arith)
       some_of (suc n) h = omega arith
+
       turn_below : (number n : ℕ) → number < count_of first.outer * n → 0 < n → number / n < count_of first.outer
       turn_below number n h some = grind (arith, div-add-mod' number n, mod_below number n some)
 
