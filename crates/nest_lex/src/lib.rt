@@ -1,6 +1,30 @@
-//! Tokens and parts of the input: bytes come in, a list of tokens with their places goes out.
+//! Tokens and parts of the input.
+//!
+//! `parts` divides an input into the nest, its data lines and its step words. `lex` gives the tokens of a nest with
+//! their places, or its first fault. `specs/Text.antt` says what both are (`AreTokens`, `IsFault`), `specs/Parts.antt`
+//! what the parts are.
 #![tactic(auto)]
 
+mod divide;
+mod found;
+mod input;
+mod lexer;
+mod load;
+mod names;
+mod number;
+mod piece;
+mod place;
+mod reader;
+mod refused;
+mod scan;
+mod spelling;
 mod token;
 
+pub use divide::{one_division, parts};
+pub use input::Parts;
+pub use lexer::{lex, one_answer};
+pub use refused::{LexKind, LexRefused};
 pub use token::{Keyword, Kind, Mark, Spot, Token, Tokens};
+
+#[cfg(test)]
+mod tests;

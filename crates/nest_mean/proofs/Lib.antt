@@ -7,3 +7,4 @@ pub mod Rounds
 pub mod Walk
 pub mod Sameness
 pub mod Whole
+pub mod Tally

@@ -200,7 +200,7 @@ module _ (arrays : List Array) (opening : List ℤ) where
     events = λ first scalars go. event setting Header l.line (l.low ∷ l.high ∷ []) (header arrays l scalars) (λ b. iterations b.1 0 first (λ k. with_scalar scalars l.name (variable b.0 l.step k)) (go scalars));
   }
 
-  invocation-is : (l : Loop) → (looped_of setting l).invocation ≡ invocation_item l
+  pub invocation-is : (l : Loop) → (looped_of setting l).invocation ≡ invocation_item l
   invocation-is l = ap (λ i. i.invocation) (looped-is setting l) ∙ ap (λ body. record (invocation_item l) { bodies = body ∷ [] }) (map_first (item_of setting) l.body)
 
   abbrev pub region_item : Loop → Item
@@ -265,7 +265,7 @@ module _ (arrays : List Array) (opening : List ℤ) where
     events = λ first scalars otherwise go. event setting Ordinary arm.line (arm.test ∷ []) (λ words. value arrays scalars words arm.test) (λ test. if is_zero test then otherwise else (items_in setting arm.body).events first scalars go);
   }
 
-  tested_of-is : (arm : Arm) → tested_of setting arm ≡ tested_item arm
+  pub tested_of-is : (arm : Arm) → tested_of setting arm ≡ tested_item arm
   tested_of-is arm = tested-is setting arm
       ∙ ap (λ (items : List Item). record { bodies = (in_order items).bodies; events = λ first scalars otherwise go. event setting Ordinary arm.line (arm.test ∷ []) (λ words. value arrays scalars words arm.test) (λ test. if is_zero test then otherwise else (in_order items).events first scalars go) }) (map_second (item_of setting) arm.body)
 
@@ -427,7 +427,7 @@ module _ (arrays : List Array) (opening : List ℤ) where
         let same : first + length t.bodies + bodies_in ts ≡ first + (length t.bodies + bodies_in ts) = omega arith in
         subst (λ f. Stand bodies f o.bodies) same (other_stands bodies (first + length t.bodies) ts o (stand_back bodies first t.bodies (chosen ts o).bodies stands))
 
-    if_count : length (item_of setting (stmt.If arms other)).bodies ≡ bodies_in (map (tested_of setting) arms) + length (items_in setting other).bodies
+    pub if_count : length (item_of setting (stmt.If arms other)).bodies ≡ bodies_in (map (tested_of setting) arms) + length (items_in setting other).bodies
     if_count = ap (λ (i : Item). length i.bodies) if-is ∙ bodies_split (map (tested_of setting) arms) (items_in setting other)
 
     abbrev ArmsPass : Result Bool Stop → Type 0

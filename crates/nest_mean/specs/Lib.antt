@@ -1,7 +1,7 @@
-pub mod Nest
 pub mod NamesChanged
 pub mod TurnRun
 pub mod TurnParts
 pub mod Outcomes
 pub mod CourseParts
 pub mod Saved
+pub mod Counts

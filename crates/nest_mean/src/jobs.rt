@@ -1,9 +1,15 @@
+<<<<<<< HEAD
 ghost use Rattle.std.specs.Prelude.{◌≡◌, ◌↔◌, IfOk, IfSome, IsSome};
+=======
+ghost use Rattle.std.specs.Prelude.{◌≡◌, ◌↔◌, IfOk, IfSome, IsSome, IsTrue};
+>>>>>>> 12646032185ac18f42c3ce99214bbe7a4f0cbdee
 ghost use Rattle.nest_syntax.specs.FirstForm.{IsFirstForm};
 ghost use Rattle.nest_syntax.specs.Arrays.{arrays_of, sizes_of};
 ghost use Rattle.word_store.specs.Memory.{zeros};
 ghost use Rattle.nest_mean.specs.Nest.{CanRun};
 
+use crate::counts::has_at_most;
+use crate::layouts::{has_layout, lengths_of};
 use nest_syntax::{NoMemory, Program};
 use std::alloc::Global;
 use std::marker::Model;
@@ -32,6 +38,32 @@ impl Model for Job {
 }
 
 impl Job {
+<<<<<<< HEAD
+=======
+    /// A job of a program of the first form, all of whose words are 0 as it begins.
+    pub fn first(alloc: Global, program: Program) -> Result<Job, NoMemory>
+        requires { IsFirstForm program }
+        ensures { IfOk result (λ job. job ≡ record { program = program; opening = zeros (sizes_of (arrays_of program.decls)) }) }
+    {
+        let lengths = lengths_of(alloc, program.decls.as_slice())?;
+        let words = Words::zeros(alloc, lengths.as_slice())?;
+        Ok(Job { program, words })
+    }
+
+    /// A job of any program. None comes exactly where the words haven't the lengths of the declared arrays, or there
+    /// are more than 4,096 bodies or 2^32 declarations or more.
+    pub fn new(program: Program, words: Words) -> Option<Job>
+        ensures job { IfSome result (λ job. job ≡ record { program = program; opening = words }) }
+        ensures exact { IsSome result ↔ CanRun (record { program = program; opening = words }) }
+    {
+        if can_run(&program, &words) {
+            Some(Job { program, words })
+        } else {
+            None
+        }
+    }
+
+>>>>>>> 12646032185ac18f42c3ce99214bbe7a4f0cbdee
     pub fn program(&self) -> &Program
         ensures same { result.now ≡ self.now.program }
         ensures runs { CanRun self.now }
@@ -45,4 +77,20 @@ impl Job {
     {
         &self.words
     }
+}
+
+const MOST_DECLS: usize = 4_294_967_296;
+
+const MOST_BODIES: usize = 4096;
+
+fn can_run(program: &Program, words: &Words) -> bool
+    ensures { IsTrue result ↔ CanRun (record { program = program.now; opening = words.now }) }
+{
+    if program.decls.len() >= MOST_DECLS {
+        return false;
+    }
+    if !has_layout(program.decls.as_slice(), words.lengths()) {
+        return false;
+    }
+    has_at_most(program.regions.as_slice(), MOST_BODIES)
 }

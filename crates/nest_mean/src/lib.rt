@@ -6,11 +6,13 @@
 
 mod arrays;
 mod bodies;
+mod counts;
 mod courses;
 mod events;
 mod expressions;
 mod iterations;
 mod jobs;
+mod layouts;
 mod outcomes;
 mod plain;
 mod saved;

@@ -118,8 +118,8 @@ module _ (arrays : List Array) (scalars words : List ℤ) where
   layer (Expr-F.Choice test first second) line go =
       test.1 line (λ v. Go (if is_zero v then reckoning arrays second.0 line scalars go else reckoning arrays first.0 line scalars go))
       ∙ then_answered line (value arrays scalars words test.0) (λ v. if is_zero v then value arrays scalars words second.0 else value arrays scalars words first.0)
-        (λ v. Go (if is_zero v then reckoning arrays second.0 line scalars go else reckoning arrays first.0 line scalars go)) go
-        (λ v. chosen_answered (is_zero v) first.0 second.0 first.1 second.1 line go)
+      (λ v. Go (if is_zero v then reckoning arrays second.0 line scalars go else reckoning arrays first.0 line scalars go)) go
+      (λ v. chosen_answered (is_zero v) first.0 second.0 first.1 second.1 line go)
 
   -- what an expression does is its value
   pub reckoned : (e : Expr) → Answers (reckoning arrays e) (value arrays scalars words e)

@@ -5,4 +5,5 @@ pub mod Turn
 pub mod Reads
 pub mod Course
 pub mod Outcome
+pub mod Named
 pub mod FirstForm

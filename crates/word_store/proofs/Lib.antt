@@ -1,3 +1,3 @@
 pub mod Counts
-pub mod Places
+pub mod Sound
 pub mod Wrapping

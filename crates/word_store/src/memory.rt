@@ -1,4 +1,4 @@
-ghost use Rattle.std.specs.Prelude.{◌≡◌, ℕ, ◌+◌, ◌<◌, ◌≤◌, ◌↔◌, IsTrue, IsSome, IfOk, IfSome, length, sum, slice_index, is_some};
+ghost use Rattle.std.specs.Prelude.{◌≡◌, ◌<◌, ◌≤◌, IfOk, IfSome, length, sum, is_some};
 ghost use Rattle.nest_syntax.specs.Arrays.{place_in, place_of};
 ghost use Rattle.word_store.specs.Memory.{IsSound, most_words, zeros, number_at, loaded, stored, array_words};
 
@@ -11,7 +11,9 @@ use std::marker::Model;
 #[derive(Debug, Drop)]
 pub struct Words {
     words: Vec<i64>,
+    /// How many words each array has.
     sizes: Vec<u64>,
+    /// The place in `words` at which each array starts, so that an access costs a constant.
     starts: Vec<usize>,
 }
 
@@ -62,6 +64,13 @@ impl Words {
         ensures sound { IsSound self.now }
     {
         self.sizes.len()
+    }
+
+    /// How many words each array has, in order.
+    pub fn lengths(&self) -> &[u64]
+        ensures { result.now ≡ self.now.sizes }
+    {
+        self.sizes.as_slice()
     }
 
     /// The words of an array, in order.

@@ -1,11 +1,9 @@
--- Words in a list of words, and the numbers of places. For the crates above.
-use Rattle.std.proofs.Common.{◌≡◌, ◌≢◌, ℕ, zero, suc, ◌+◌, ◌<◌, ◌≤◌, ℤ, pos, negsuc, Option, Some, None, nat_lt, if◌then◌else◌, FitsSigned, w64, List, [], ◌∷◌, length, take, sum, get_or, refl, ap, ◌∙◌, arith}
-use Rattle.std.specs.Option.{option_map_or}
+-- Words in a list of words: what a write changes, and which number a place of an array has.
+use Rattle.std.proofs.Common.{◌≡◌, ◌≢◌, ℕ, zero, suc, ◌+◌, ◌<◌, ◌≤◌, ℤ, pos, negsuc, Some, None, nat_lt, if◌then◌else◌, FitsSigned, w64, List, [], ◌∷◌, length, take, sum, get_or, refl, ap, arith}
 use Rattle.std.proofs.lemmas.List.{get_or-set_same, get_or-set_other, get_or-take, length-set, set-set, take-take, length-take-le, ext_get_or}
 use Rattle.std.proofs.lemmas.Bool.Decides.{nat_tests}
 use Rattle.std.proofs.lemmas.List.Sums.{sum_by_more_le}
 use Rattle.nest_syntax.specs.Arrays.{place_in, word_number, word_at, with_word}
-use Rattle.word_store.specs.Memory.{Memory, IsSound, number_at, stored}
 
 -- a word that was written is read
 pub word_at-with_word_same : (words : List ℤ) (n : ℕ) (value : ℤ) → n < length words → word_at (with_word words n value) n ≡ value
@@ -73,16 +71,3 @@ words-with_word (word ∷ words) zero zero value each fits = fits
 words-with_word (word ∷ words) zero (suc m) value each fits = each (suc m)
 words-with_word (word ∷ words) (suc n) zero value each fits = each zero
 words-with_word (word ∷ words) (suc n) (suc m) value each fits = words-with_word words n m value (λ k. each (suc k)) fits
-
-IsSound-with_word : (memory : Memory) (number : Option ℕ) (value : ℤ) → IsSound memory → FitsSigned w64 value
-    → IsSound (option_map_or (λ n. record memory { words = with_word memory.words n value }) number memory)
-IsSound-with_word memory None value sound fits = sound
-IsSound-with_word memory (Some n) value sound fits = record {
-  as_many = length-set memory.words n value ∙ sound.as_many;
-  few = sound.few;
-  each = λ m. words-with_word memory.words n m value sound.each fits;
-}
-
--- a memory stays sound where a word is written
-pub IsSound-stored : (memory : Memory) (array : ℕ) (at value : ℤ) → IsSound memory → FitsSigned w64 value → IsSound (stored memory array at value)
-IsSound-stored memory array at value sound fits = IsSound-with_word memory (number_at memory.sizes array at) value sound fits

@@ -1,0 +1,4 @@
+pub mod Count
+pub mod Stream
+pub mod MemorySource
+pub mod MemorySink

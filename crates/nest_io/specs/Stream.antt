@@ -1,0 +1,16 @@
+-- What moves through a source and a sink. `Consumes`, `Keeps`, `IsAtEnd` and `Appends` are std's words on
+-- bytes that are told or not.
+use Rattle.std.specs.Prelude.{◌≡◌, ℕ, ◌<◌, List, ◌++◌, length, Option}
+use Rattle.std.specs.Io.KnownBytes.{Consumes, Appends}
+
+-- some of the bytes at the front, and not all of them
+abbrev pub IsProperPrefix : List ℕ → List ℕ → Type 0
+IsProperPrefix part bytes = (rest : List ℕ) × (0 < length rest) × (bytes ≡ part ++ rest)
+
+-- the bytes that a source told lost some at their front
+abbrev pub LosesPrefix : Option (List ℕ) → Option (List ℕ) → Type 0
+LosesPrefix old new = (part : List ℕ) × Consumes old new part
+
+-- what a sink told grew by a part of the bytes, and not by all of them
+abbrev pub AppendsPart : Option (List ℕ) → Option (List ℕ) → List ℕ → Type 0
+AppendsPart old new bytes = (part : List ℕ) × IsProperPrefix part bytes × Appends old new part

@@ -1,0 +1,15 @@
+pub mod Marks
+pub mod Numbers
+pub mod Ranges
+pub mod Spots
+pub mod Tables
+pub mod Words
+pub mod Numbering
+pub mod Reading
+pub mod OneDivision
+pub mod OneReading
+pub mod Written
+pub mod OneAnswer
+pub mod WellNamed
+pub mod Dividing
+pub mod Searching

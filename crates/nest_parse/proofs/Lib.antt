@@ -1,0 +1,9 @@
+pub mod Passes
+pub mod Joins
+pub mod Operands
+pub mod Parts
+pub mod WholeNest
+pub mod Equations
+pub mod Counts
+pub mod Names
+pub mod Whole

@@ -1,0 +1,56 @@
+ghost use Rattle.std.specs.Prelude.{◌≡◌, ◌+◌, ◌++◌, ◌^◌, ◌<◌, length, IfOk, OnOk, slice_index_or, []};
+ghost use Rattle.nest_syntax.specs.Arrays.{arrays_of, sizes_of};
+ghost use Rattle.nest_report.specs.Text.{array_line, array_lines, value_text};
+
+use itoa::Buffer;
+use nest_syntax::{Decl, Name, NoMemory};
+use sqlite_items::Items;
+use std::alloc::Global;
+use word_store::Words;
+
+/// The lines of the arrays that aren't `const`, in order of declaration: the name and the values, separated by single
+/// spaces. The words have the sizes of the declared arrays. A name that isn't there is printed as nothing.
+pub fn print_words(
+    alloc: Global,
+    words: &Words,
+    names: &[Name],
+    decls: &[Decl],
+) -> Result<Vec<u8>, NoMemory>
+    requires sizes { words.now.sizes ≡ sizes_of (arrays_of decls.now) }
+    requires few { length (arrays_of decls.now) < 2 ^ 32 }
+    ensures { IfOk result (λ text. text.items ≡ array_lines names.now words.now 0 decls.now) }
+{
+    let mut text = Vec::new(alloc);
+    let mut number = 0u32;
+    for decl in decls {
+        if let Decl::Array { name, fixed, .. } = decl {
+            if !fixed {
+                add_line(&mut text, name_bytes(names, *name), words.array(number))?;
+            }
+            number += 1;
+        }
+    }
+    Ok(text)
+}
+
+fn name_bytes(names: &[Name], name: u32) -> &[u8]
+    ensures { result.now ≡ slice_index_or names.now name [] }
+{
+    match names.get(name as usize) {
+        Some(bytes) => bytes.as_slice(),
+        None => &[],
+    }
+}
+
+fn add_line(text: &mut Vec<u8>, name: &[u8], values: &[i64]) -> Result<(), NoMemory>
+    ensures { OnOk result (text.new.items ≡ text.old.items ++ array_line name.now values.now) }
+{
+    let mut number = Buffer::new();
+    text.extend_from_slice(name)?;
+    for value in values {
+        text.push(b' ')?;
+        text.extend_from_slice(number.format(*value).as_bytes())?;
+    }
+    text.push(b'\n')?;
+    Ok(())
+}
