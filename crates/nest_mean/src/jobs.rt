@@ -1,8 +1,4 @@
-<<<<<<< HEAD
-ghost use Rattle.std.specs.Prelude.{◌≡◌, ◌↔◌, IfOk, IfSome, IsSome};
-=======
 ghost use Rattle.std.specs.Prelude.{◌≡◌, ◌↔◌, IfOk, IfSome, IsSome, IsTrue};
->>>>>>> 12646032185ac18f42c3ce99214bbe7a4f0cbdee
 ghost use Rattle.nest_syntax.specs.FirstForm.{IsFirstForm};
 ghost use Rattle.nest_syntax.specs.Arrays.{arrays_of, sizes_of};
 ghost use Rattle.word_store.specs.Memory.{zeros};
@@ -38,8 +34,6 @@ impl Model for Job {
 }
 
 impl Job {
-<<<<<<< HEAD
-=======
     /// A job of a program of the first form, all of whose words are 0 as it begins.
     pub fn first(alloc: Global, program: Program) -> Result<Job, NoMemory>
         requires { IsFirstForm program }
@@ -63,7 +57,6 @@ impl Job {
         }
     }
 
->>>>>>> 12646032185ac18f42c3ce99214bbe7a4f0cbdee
     pub fn program(&self) -> &Program
         ensures same { result.now ≡ self.now.program }
         ensures runs { CanRun self.now }
