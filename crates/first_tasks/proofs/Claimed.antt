@@ -1,8 +1,8 @@
 -- The claims of the iterations hold their trees, so iterations whose claims don't clash are apart.
-use Rattle.std.proofs.Common.{◌≡◌, ◌≢◌, ℕ, zero, suc, ◌*◌, ◌≤◌, ◌<◌, ◌⊎◌, ℤ, Bool, true, false, ◌&&◌, ◌||◌, ◌==◌, Option, Some, None, List, [], ◌∷◌, length, get_or, set, replicate, inl, inr, ⊎_elim, refl, sym, ap, ◌∙◌, subst, arith}
+use Rattle.std.proofs.Common.{◌≡◌, ℕ, ◌*◌, ◌≤◌, ◌<◌, ◌⊎◌, ℤ, Bool, true, false, ◌||◌, Option, None, List, [], ◌∷◌, set, replicate, inl, inr, ⊎_elim, refl, sym, ap, ◌∙◌, subst, arith}
 use Rattle.std.specs.List.{list_any}
 use Rattle.std.specs.Option.{option_map_or}
-use Rattle.std.proofs.lemmas.Bool.{cases_eq, cases_lt, cases_Bool, eq-eqb, or_cases, or_left, or_right, and_from, true≢false, false≢true}
+use Rattle.std.proofs.lemmas.Bool.{cases_eq, cases_lt, eq-eqb, or_cases, or_left, or_right, and_from, true≢false, false≢true}
 use Rattle.std.proofs.lemmas.List.{get_or-set_other, get_or-replicate, get_or_past, length-replicate}
 use Rattle.nest_syntax.specs.declared.tree.Program.{Program}
 use Rattle.nest_syntax.specs.Arrays.{arrays_of, sizes_of}
@@ -16,20 +16,19 @@ use Rattle.addr_slice.proofs.Held as Held
 use Rattle.addr_slice.proofs.Room.{walk_of_write-within}
 use Rattle.addr_slice.specs.Within as slice
 use Rattle.addr_slice.proofs.Turns.{hold}
-use Rattle.settle_law.specs.Cuts.{Cut, cut, plain, is_full, one_more}
+use Rattle.settle_law.specs.Cuts.{cut, plain, is_full, one_more}
 use Rattle.settle_law.specs.Trees.{Tree}
 use Rattle.settle_law.specs.Trees as tree
 use Rattle.settle_law.specs.Traces.{Apart}
 use Rattle.settle_law.specs.Claims.{Claims, Within, Clash, claimed}
-use Rattle.settle_law.specs.Courses.{Nest, nest_of, family_of, iteration_at, cut_at}
+use Rattle.settle_law.specs.Courses.{Nest, nest_of, family_of, cut_at}
 use Rattle.settle_law.proofs.Claims.{apart-from_claims}
 use Rattle.settle_law.proofs.Turns.{plain_pausing}
-use Rattle.first_tasks.specs.declared.position.Iteration.{Iteration}
 use Rattle.first_tasks.specs.Form.{first_of, count_of}
 use Rattle.first_tasks.specs.Iterations.{iteration_numbered, scalars_in, turn_at, cut_turn}
 use Rattle.first_tasks.specs.Claims.{claims_in, claims_numbered, collide, clash, clashes}
 use Rattle.first_tasks.proofs.Forms.{first-of_form}
-use Rattle.first_tasks.proofs.Numbers.{IsIteration, iteration-numbered, none_behind}
+use Rattle.first_tasks.proofs.Numbers.{iteration-numbered, none_behind}
 
 -- a list has a claim of this word, for writing or for reading
 abbrev pub Lists : List Claim → ℕ → Bool → Type 0
@@ -110,7 +109,7 @@ module _ (program : Program) (form : IsFirstForm program) (words : List ℤ) whe
       let scalars = scalars_in program (iteration_numbered first number) in
       let by_parts = λ (f : First). (claims_of f (scalar_at scalars f.outer.name) (scalar_at scalars f.inner.name)).claims in
       subst (λ (f : First). slice.Within (sizes_of (arrays_of program.decls)) (has (with_claims (no_claims form.first.length) (by_parts f))) (turn_at program (iteration_numbered first number))) (sym (first-of_form program form))
-        (hold program form (scalar_at scalars form.first.outer.name) (scalar_at scalars form.first.inner.name) scalars (record { of_outer = refl; of_inner = refl }) form.first.length (omega arith))
+      (hold program form (scalar_at scalars form.first.outer.name) (scalar_at scalars form.first.inner.name) scalars (record { of_outer = refl; of_inner = refl }) form.first.length (omega arith))
 
   family_held : (number : ℕ) → Within (claims_by (claims_word number)) (family_of (λ w. None) nest number)
   unfolding cut_turn
@@ -120,8 +119,9 @@ module _ (program : Program) (form : IsFirstForm program) (words : List ℤ) whe
       inside below =
           let it = iteration-numbered program form words number below in
           subst (λ (o : Option (ℕ × List ℤ)). Within (claims_by (claims_word number)) (option_map_or (λ (i : ℕ × List ℤ). plain (λ w. None) (cut_at nest i)) o tree.Finished)) (sym it.is)
-            (subst (λ c. Within (claims_by (claims_word number)) (plain (λ w. None) c)) it.same
-              (within_tree (sizes_of (arrays_of program.decls)) (claims_word number) (turn_at program (iteration_numbered first number)) 0 (turn_held number)))
+          (subst (λ c. Within (claims_by (claims_word number)) (plain (λ w. None) c)) it.same
+          (within_tree (sizes_of (arrays_of program.decls)) (claims_word number) (turn_at program (iteration_numbered first number)) 0 (turn_held number)))
+
       behind : count_of first.outer * count_of first.inner ≤ number → Within (claims_by (claims_word number)) (family_of (λ w. None) nest number)
       behind past = subst (λ (o : Option (ℕ × List ℤ)). Within (claims_by (claims_word number)) (option_map_or (λ (i : ℕ × List ℤ). plain (λ w. None) (cut_at nest i)) o tree.Finished)) (sym (none_behind program form words number past)) tt
 

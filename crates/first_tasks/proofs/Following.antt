@@ -1,6 +1,5 @@
 -- The cursor follows the course of a program of the first form.
-use Rattle.std.proofs.Common.{◌≡◌, ◌≢◌, ℕ, zero, suc, ◌+◌, ◌-◌, ◌*◌, ◌/◌, ◌≤◌, ◌<◌, ℤ, pos, Bool, true, false, nat_lt, nat_le, ◌||◌, if◌then◌else◌, Option, Some, None, Result, Ok, Err, List, [], ◌∷◌, ◌++◌, map, length, slice_set, refl, sym, ap, ◌∙◌, subst, arith}
-use Rattle.std.specs.Int.{int_gap}
+use Rattle.std.proofs.Common.{◌≡◌, ℕ, zero, suc, ◌+◌, ◌-◌, ◌/◌, ◌≤◌, ℤ, pos, false, nat_lt, nat_le, ◌||◌, if◌then◌else◌, None, Result, Ok, Err, List, [], ◌∷◌, map, refl, sym, ap, ◌∙◌, subst, arith}
 use Rattle.std.proofs.lemmas.Bool.{lt-ltb, le-ltb, le-leb, cond-true, cond-false}
 use Rattle.std.proofs.lemmas.List.{set-set}
 use Rattle.nest_syntax.specs.declared.names.Line.{Line}
@@ -10,23 +9,19 @@ use Rattle.nest_syntax.specs.declared.tree.Expr.{Expr}
 use Rattle.nest_syntax.specs.declared.tree.Expr.TheVariants as expr
 use Rattle.nest_syntax.specs.declared.tree.Stmt.{Stmt}
 use Rattle.nest_syntax.specs.declared.tree.Stmt.TheVariants as stmt
-use Rattle.nest_syntax.specs.declared.tree.Loop.{Loop}
 use Rattle.nest_syntax.specs.declared.tree.Program.{Program}
 use Rattle.nest_syntax.specs.Words.{turns, counted, variable}
-use Rattle.nest_syntax.specs.Arrays.{Array, arrays_of, sizes_of}
 use Rattle.nest_syntax.specs.Value.{value, and_then, with_scalar, names_written}
 use Rattle.nest_syntax.specs.Course.{Course, Purpose, Ordinary, Header, Setting, Item, Looped, Layer_of_loop, setting_of, computed, event, bounds, iterations, region_turns, in_order, item_of, looped_of, region_of, course_of, whole_of, opening_scalars, bodies_of}
 use Rattle.nest_syntax.specs.Course as course
-use Rattle.nest_syntax.specs.FirstForm.{First, Turns, IsKept, IsFirstForm, loop_of, regions_of, greatest_bound}
+use Rattle.nest_syntax.specs.FirstForm.{First, Turns, IsKept, IsFirstForm, greatest_bound}
 use Rattle.nest_syntax.proofs.Equations.{value-number, names_written-number, looped-is, item-loop}
 use Rattle.addr_slice.proofs.Parts.{write_of, invocation_of, region_of as region}
-use Rattle.settle_law.specs.Cuts.{Cut}
-use Rattle.settle_law.specs.Courses.{Nest, Trap, Event, End, Scalar, Iterate, Close, Follows, nest_of, trap_of, cut_at}
-use Rattle.first_tasks.specs.declared.position.Iteration.{Iteration}
+use Rattle.settle_law.specs.Courses.{Nest, Scalar, Follows, nest_of, trap_of, cut_at}
 use Rattle.first_tasks.specs.declared.position.Position.{Position}
 use Rattle.first_tasks.specs.declared.position.Position.TheVariants as position
 use Rattle.first_tasks.specs.Form.{first_of, count_of}
-use Rattle.first_tasks.specs.Iterations.{iteration_of, scalars_in, cut_turn}
+use Rattle.first_tasks.specs.Iterations.{iteration_of, cut_turn}
 use Rattle.first_tasks.specs.Positions.{event_at}
 use Rattle.first_tasks.proofs.Forms.{first-kept, form_with}
 
@@ -70,8 +65,8 @@ module _ (setting : Setting) (first : First) (kept : IsKept first) where
       ap (λ (i : Item). i.events body scalars go) (item-loop setting (invocation_of first))
       ∙ ap (λ (l : Looped). l.invocation.events body scalars go) (looped-is setting (invocation_of first))
       ∙ header-known setting scalars Header first.inner.line first.inner _ _ (bounds setting.arrays (layer first.inner (map (λ s. (s, item_of setting s)) (write_of first))) scalars)
-          (λ b. iterations b.1 0 body (λ k. with_scalar scalars first.inner.name (variable b.0 1 k)) (go scalars)) (pos first.inner.low, count_of first.inner) refl refl
-          (bounds-known setting scalars first.inner (layer first.inner (map (λ s. (s, item_of setting s)) (write_of first))) refl refl refl refl kept.inner_high setting.words)
+      (λ b. iterations b.1 0 body (λ k. with_scalar scalars first.inner.name (variable b.0 1 k)) (go scalars)) (pos first.inner.low, count_of first.inner) refl refl
+      (bounds-known setting scalars first.inner (layer first.inner (map (λ s. (s, item_of setting s)) (write_of first))) refl refl refl refl kept.inner_high setting.words)
 
   abbrev pub items : List ℤ → (List ℤ → Course) → Course
   items scalars go = (item_of setting (stmt.Loop (invocation_of first))).events 0 scalars (λ after. go after)
@@ -81,8 +76,8 @@ module _ (setting : Setting) (first : First) (kept : IsKept first) where
   region-is scalars go =
       ap (λ (l : Looped). l.region.events 0 scalars go) (looped-is setting (region first))
       ∙ header-known setting scalars Ordinary first.outer.line first.outer _ _ (bounds setting.arrays (layer first.outer (map (λ s. (s, item_of setting s)) (stmt.Loop (invocation_of first) ∷ []))) scalars)
-          (λ b. region_turns b.1 0 (variable b.0 1) first.outer.name items scalars go) (pos first.outer.low, count_of first.outer) refl refl
-          (bounds-known setting scalars first.outer (layer first.outer (map (λ s. (s, item_of setting s)) (stmt.Loop (invocation_of first) ∷ []))) refl refl refl refl kept.outer_high setting.words)
+      (λ b. region_turns b.1 0 (variable b.0 1) first.outer.name items scalars go) (pos first.outer.low, count_of first.outer) refl refl
+      (bounds-known setting scalars first.outer (layer first.outer (map (λ s. (s, item_of setting s)) (stmt.Loop (invocation_of first) ∷ []))) refl refl refl refl kept.outer_high setting.words)
 
 -- the cursor along a course
 module _ (program : Program) (form : IsFirstForm program) (words : List ℤ) where
@@ -107,10 +102,13 @@ module _ (program : Program) (form : IsFirstForm program) (words : List ℤ) whe
   unfolding cut_turn
   follow_iterations zero t k scalars rest count are follows =
       (position.Turn (suc t), cond-false (nat_lt k (count_of first.inner)) _ _ (le-ltb k (count_of first.inner) (omega arith)), follows)
-  follow_iterations (suc n) t k scalars rest count are follows =
-      (iteration_of first t k, position.Inside t (suc k), cond-true (nat_lt k (count_of first.inner)) _ _ (lt-ltb k (count_of first.inner) (omega arith)),
-        ap (λ s. cut_at nest (0, with_scalar s first.inner.name (variable (pos first.inner.low) 1 k))) (sym are),
-        follow_iterations n t (suc k) scalars rest (omega arith) are follows)
+  follow_iterations (suc n) t k scalars rest count are follows = (
+    iteration_of first t k,
+    position.Inside t (suc k),
+    cond-true (nat_lt k (count_of first.inner)) _ _ (lt-ltb k (count_of first.inner) (omega arith)),
+    ap (λ s. cut_at nest (0, with_scalar s first.inner.name (variable (pos first.inner.low) 1 k))) (sym are),
+    follow_iterations n t (suc k) scalars rest (omega arith) are follows,
+  )
 
   no_trap-iterations : (n k : ℕ) (scalars_at : ℕ → List ℤ) (rest : Course) → trap_of (iterations n k 0 scalars_at rest) ≡ None
   no_trap-iterations zero k scalars_at rest = refl
@@ -124,13 +122,16 @@ module _ (program : Program) (form : IsFirstForm program) (words : List ℤ) whe
   follow_turns (suc n) t scalars items are count over =
       let inside = with_scalar scalars first.outer.name (variable (pos first.outer.low) 1 t) in
       let rest = λ (after : List ℤ). region_turns n (suc t) (variable (pos first.outer.low) 1) first.outer.name items after (λ last. course.End) in
-      let is = are inside rest in
-      (position.Invocation t,
+      let is = are inside rest in (
+        position.Invocation t,
         ap (λ next. Scalar Ordinary None next) (cond-true (nat_lt t (count_of first.outer)) _ _ (lt-ltb t (count_of first.outer) (omega arith))) ∙ ap (λ c. Scalar Ordinary (trap_of c) (position.Invocation t)) (sym is),
-        λ none. subst (Follow (position.Invocation t)) (sym is)
-          (position.Inside t 0, ap (λ trap. Scalar Header trap (position.Inside t 0)) (sym (no_trap-iterations (count_of first.inner) 0 _ (rest inside))),
-            λ no_trap. follow_iterations (count_of first.inner) t 0 inside (rest inside) (omega arith) (over _)
-              (follow_turns n (suc t) inside items are (omega arith) (λ v. set-set scalars first.outer.name (variable (pos first.outer.low) 1 t) v ∙ over v))))
+        λ none. subst (Follow (position.Invocation t)) (sym is) (
+          position.Inside t 0,
+          ap (λ trap. Scalar Header trap (position.Inside t 0)) (sym (no_trap-iterations (count_of first.inner) 0 _ (rest inside))),
+          λ no_trap. follow_iterations (count_of first.inner) t 0 inside (rest inside) (omega arith) (over _)
+              (follow_turns n (suc t) inside items are (omega arith) (λ v. set-set scalars first.outer.name (variable (pos first.outer.low) 1 t) v ∙ over v)),
+        ),
+      )
 
   no_trap-turns : (n t : ℕ) (scalars : List ℤ) (items : List ℤ → (List ℤ → Course) → Course) → trap_of (region_turns n t (variable (pos first.outer.low) 1) first.outer.name items scalars (λ after. course.End)) ≡ None
   no_trap-turns zero t scalars items = refl
@@ -146,6 +147,8 @@ module _ (program : Program) (form : IsFirstForm program) (words : List ℤ) whe
   follows =
       let setting = setting_of program words in
       let them = items setting first (first-kept program) in
-      subst (Follow position.Region) (sym course-is)
-        (position.Turn 0, ap (λ trap. Scalar Ordinary trap (position.Turn 0)) (sym (no_trap-turns (count_of first.outer) 0 opened them)),
-          λ none. follow_turns (count_of first.outer) 0 opened them (λ s go. invocation-is setting first (first-kept program) s go 0) (omega arith) (λ v. refl))
+      subst (Follow position.Region) (sym course-is) (
+        position.Turn 0,
+        ap (λ trap. Scalar Ordinary trap (position.Turn 0)) (sym (no_trap-turns (count_of first.outer) 0 opened them)),
+        λ none. follow_turns (count_of first.outer) 0 opened them (λ s go. invocation-is setting first (first-kept program) s go 0) (omega arith) (λ v. refl),
+      )

@@ -1,5 +1,5 @@
 -- The pieces realise the cut turns.
-use Rattle.std.proofs.Common.{◌≡◌, ℕ, zero, suc, ◌+◌, ◌-◌, ◌≤◌, ◌<◌, ℤ, pos, replicate, Some, Bool, true, false, if◌then◌else◌, None, List, [], ◌∷◌, ◌++◌, length, refl, sym, ap, ◌∙◌, subst, arith, length-append}
+use Rattle.std.proofs.Common.{◌≡◌, ℕ, zero, suc, ◌+◌, ◌≤◌, ◌<◌, ℤ, pos, replicate, Some, Bool, true, false, if◌then◌else◌, List, [], ◌∷◌, ◌++◌, length, refl, sym, ap, ◌∙◌, subst, arith, length-append}
 use Rattle.std.proofs.Common.{⊎_elim}
 use Rattle.std.proofs.lemmas.Bool.{cases_Bool}
 use Rattle.nest_syntax.specs.declared.tree.Program.{Program}
@@ -10,15 +10,15 @@ use Rattle.nest_syntax.specs.Value.{with_scalar}
 use Rattle.nest_syntax.specs.Turn.{Turn, turn_of}
 use Rattle.nest_syntax.specs.Course.{bodies_of, declared_scalars}
 use Rattle.nest_syntax.specs.Outcome.{turn_in}
-use Rattle.nest_syntax.specs.FirstForm.{First, IsKept, IsFirstForm, decls_of}
+use Rattle.nest_syntax.specs.FirstForm.{First, IsFirstForm, decls_of}
 use Rattle.addr_slice.proofs.Bodies.{bodies-of_first, turn-of_write}
 use Rattle.addr_slice.proofs.Parts.{write_of}
 use Rattle.settle_law.specs.Cuts.{Cut, cut, Finished, Trapped, Reads, Writes, Pauses}
-use Rattle.settle_law.specs.Tasks.{Realises, Loads, Stores, Finishes, Traps}
+use Rattle.settle_law.specs.Tasks.{Realises, Loads, Stores, Finishes}
 use Rattle.first_tasks.specs.declared.position.Iteration.{Iteration}
 use Rattle.first_tasks.specs.Form.{first_of}
 use Rattle.first_tasks.specs.Iterations.{scalars_in, cut_turn}
-use Rattle.first_tasks.specs.Pieces.{Piece, entry, left_behind, stop_at, stop_of, stops_left, most_reads, system_of}
+use Rattle.first_tasks.specs.Pieces.{Piece, entry, left_behind, stop_at, stop_of, most_reads, system_of}
 use Rattle.first_tasks.specs.declared.stop.Stop.{Stop}
 use Rattle.first_tasks.specs.declared.stop.Stop.TheVariants.{Load, Store, Finish, Trap}
 use Rattle.first_tasks.specs.Frames.{scalars_of}
@@ -53,10 +53,13 @@ module _ (program : Program) (iteration : Iteration) where
   realises Finished most reads count straight is = ap (stop_at (piece_at reads false)) is
   realises (Trapped cause line) most reads count straight is = ap (stop_at (piece_at reads false)) is
   realises (Reads w go) zero reads count straight is = elim straight [ ]
-  realises (Reads w go) (suc most) reads count straight is =
-      ((λ value. piece_at (reads ++ value ∷ []) false), ap (stop_at (piece_at reads false)) is, λ value can.
+  realises (Reads w go) (suc most) reads count straight is = (
+    (λ value. piece_at (reads ++ value ∷ []) false),
+    ap (stop_at (piece_at reads false)) is,
+    λ value can.
         let longer : length (reads ++ value ∷ []) ≡ suc (length reads) = omega (arith, length-append reads (value ∷ [])) in
-        (omega (arith, longer, count), realises (go value) most (reads ++ value ∷ []) (omega (arith, longer, count)) (straight.1 value) (left-push (cut_turn program iteration) reads w go value is)))
+        (omega (arith, longer, count), realises (go value) most (reads ++ value ∷ []) (omega (arith, longer, count)) (straight.1 value) (left-push (cut_turn program iteration) reads w go value is)),
+  )
   realises (Writes w value rest) most reads count straight is =
       (piece_at reads true, ap (stop_at (piece_at reads false)) is, refl, omega arith, subst (λ r. Realises (system_of program) r (piece_at reads true)) (sym straight.1) refl)
   realises (Pauses rest) most reads count straight is = elim straight [ ]
@@ -69,9 +72,9 @@ cut_turn-straight program form iteration =
     let scalars = scalars_in program iteration in
     let own = write_straight first.array first.length first.outer.name first.inner.name scalars first.place first.value first.write_line form.kept.place form.kept.value form.kept.few_operators in
     subst (λ (f : First). IsStraight f.length (most_reads f) (cut_turn program iteration)) (sym (first-of_form program form))
-      (subst (λ (decls : List Decl). IsStraight first.length (most_reads first) (cut (sizes_of (arrays_of decls)) 0 (turn_in (arrays_of decls) (bodies_of program) 0 scalars))) (sym form.decls)
-        (subst (λ (bodies : List (List Stmt)). IsStraight first.length (most_reads first) (cut (sizes_of (arrays_of (decls_of first))) 0 (turn_in (arrays_of (decls_of first)) bodies 0 scalars))) (sym (bodies-of_first program form))
-          (subst (λ (turn : Turn). IsStraight first.length (most_reads first) (cut (sizes_of (arrays_of (decls_of first))) 0 turn)) (sym (turn-of_write (arrays_of (decls_of first)) first scalars)) own)))
+    (subst (λ (decls : List Decl). IsStraight first.length (most_reads first) (cut (sizes_of (arrays_of decls)) 0 (turn_in (arrays_of decls) (bodies_of program) 0 scalars))) (sym form.decls)
+    (subst (λ (bodies : List (List Stmt)). IsStraight first.length (most_reads first) (cut (sizes_of (arrays_of (decls_of first))) 0 (turn_in (arrays_of (decls_of first)) bodies 0 scalars))) (sym (bodies-of_first program form))
+    (subst (λ (turn : Turn). IsStraight first.length (most_reads first) (cut (sizes_of (arrays_of (decls_of first))) 0 turn)) (sym (turn-of_write (arrays_of (decls_of first)) first scalars)) own)))
 
 pub begins : (program : Program) (form : IsFirstForm program) (iteration : Iteration) → Realises (system_of program) (cut_turn program iteration) (entry iteration)
 begins program form iteration = realises program iteration (cut_turn program iteration) (most_reads (first_of program)) [] (omega arith) (cut_turn-straight program form iteration) (left-none (cut_turn program iteration))

@@ -1,11 +1,10 @@
 -- How far an expression gets with the words read says where its cut turn stands behind them.
-use Rattle.std.proofs.Common.{◌≡◌, ℕ, zero, suc, ◌+◌, ◌≤◌, ◌<◌, ℤ, pos, Bool, true, false, ◌&&◌, ◌==◌, ◌||◌, nat_lt, if◌then◌else◌, IsTrue, Option, Some, None, Result, Ok, Err, List, [], ◌∷◌, length, get_or, drop, refl, sym, ap, ◌∙◌, subst, arith, drop-cons, add-one}
+use Rattle.std.proofs.Common.{◌≡◌, ℕ, suc, ◌+◌, ◌≤◌, ◌<◌, ℤ, pos, Bool, true, false, ◌&&◌, ◌==◌, nat_lt, if◌then◌else◌, IsTrue, Option, Some, None, Result, Ok, Err, List, [], ◌∷◌, length, get_or, drop, refl, sym, ap, ◌∙◌, subst, arith, drop-cons}
 use Rattle.std.specs.Option.{option_map_or}
 use Rattle.std.proofs.lemmas.List.{drop_all}
-use Rattle.std.proofs.lemmas.Bool.{and_parts, false≢true, ltb-true, ltb-false, cond-true, cond-false}
+use Rattle.std.proofs.lemmas.Bool.{and_parts, false≢true, ltb-true, ltb-false}
 use Rattle.nest_syntax.specs.declared.names.Line.{Line}
 use Rattle.nest_syntax.specs.declared.operators.Bin.{Bin}
-use Rattle.nest_syntax.specs.declared.operators.Un.{Un}
 use Rattle.nest_syntax.specs.declared.operators.Cause.{Cause}
 use Rattle.nest_syntax.specs.declared.operators.Cause.TheVariants.{Index}
 use Rattle.nest_syntax.specs.declared.tree.Expr.{Expr}
@@ -20,7 +19,7 @@ use Rattle.nest_syntax.specs.Turn.{Turn, Finished, Load, Reckoning, reckoning, d
 use Rattle.nest_syntax.specs.FirstForm.{is_allowed, is_arithmetic, operators}
 use Rattle.nest_syntax.proofs.Equations.{reckoning-number, reckoning-scalar, reckoning-word, reckoning-binary}
 use Rattle.addr_slice.proofs.Nodes.{expr_induction, allowed-unary, allowed-binary, allowed-word, allowed-choice}
-use Rattle.addr_slice.proofs.Sound.{arithmetic, turn-arithmetic}
+use Rattle.addr_slice.proofs.Sound.{turn-arithmetic}
 use Rattle.settle_law.specs.Cuts.{Cut, cut}
 use Rattle.settle_law.specs.Cuts as cuts
 use Rattle.first_tasks.specs.declared.reckoned.Reckoned.{Reckoned}
@@ -96,10 +95,10 @@ module _ (array size outer inner : ℕ) (scalars reads : List ℤ) where
       let place_allowed = and_parts (name == array) (is_allowed array outer inner place false) (and_parts words (name == array && is_allowed array outer inner place false) (sym (allowed-word array outer inner words name place) ∙ allowed)).1 in
       let reading = λ (v : ℤ). inside line (located arrays name v) (λ a p. Load a p go) in
       subst (Stands line (n + operators (expr.Word name place)) go (left_at n at (reckoning arrays (expr.Word name place) line scalars go))) (sym (reckon-word name place at))
-        (subst (λ (r : Reckoning). Stands line (n + operators (expr.Word name place)) go (left_at n at (r line scalars go)) (then_with (Reckoned_as place at) (read_at arrays name reads))) (sym (reckoning-word arrays name place))
-          (then_stands line (n + operators place) (n + operators (expr.Word name place)) reading go _ (Reckoned_as place at) (read_at arrays name reads)
-            (is false place_allowed.1 line n at reading (omega (arith, ops)))
-            (λ v here m le. by_place (located arrays name v) line (n + operators (expr.Word name place)) m here go)))
+      (subst (λ (r : Reckoning). Stands line (n + operators (expr.Word name place)) go (left_at n at (r line scalars go)) (then_with (Reckoned_as place at) (read_at arrays name reads))) (sym (reckoning-word arrays name place))
+      (then_stands line (n + operators place) (n + operators (expr.Word name place)) reading go _ (Reckoned_as place at) (read_at arrays name reads)
+      (is false place_allowed.1 line n at reading (omega (arith, ops)))
+      (λ v here m le. by_place (located arrays name v) line (n + operators (expr.Word name place)) m here go)))
 
   by_result : (line : Line) (most m at : ℕ) (go : ℤ → Turn) (r : Result ℤ Cause) → m < 31 → suc m ≤ most → Stands line most go (left_at m at (done_with line r go)) (result_at at r)
   by_result line most m at go (Ok value) few le = (suc m, le, ap (λ c. left_behind c (drop at reads)) (cut-op (sizes_of arrays) m (go value) few))
@@ -114,12 +113,12 @@ module _ (array size outer inner : ℕ) (scalars reads : List ℤ) where
       let next = λ (value : ℤ) (here : ℕ). then_with (Reckoned_as b here) (λ other there. result_at there (apply o value other)) in
       let behind = λ (left : ℤ). operation_turn o left (reckoning arrays b) line scalars go in
       subst (Stands line most go (left_at n at (reckoning arrays (expr.Binary o a b) line scalars go))) (sym (reckon-binary o a b at))
-        (subst (λ (r : Reckoning). Stands line most go (left_at n at (r line scalars go)) (then_with (Reckoned_as a at) next)) (sym (reckoning-binary arrays o a b))
-          (then_stands line (n + operators a) most behind go _ (Reckoned_as a at) next (first words parts.0 line n at behind (omega (arith, ops)))
-            (λ left here m le. subst (λ t. Stands line most go (left_at m here t) (next left here)) (sym (turn-arithmetic o both.0 left (reckoning arrays b) line scalars go))
-              (then_stands line (m + operators b) most (λ v. done_with line (apply o left v) go) go _ (Reckoned_as b here) (λ other there. result_at there (apply o left other))
-                (second words parts.1 line m here (λ v. done_with line (apply o left v) go) (omega (arith, ops)))
-                (λ right there k less. by_result line most k there go (apply o left right) (omega (arith, ops)) (omega (arith, ops)))))))
+      (subst (λ (r : Reckoning). Stands line most go (left_at n at (r line scalars go)) (then_with (Reckoned_as a at) next)) (sym (reckoning-binary arrays o a b))
+      (then_stands line (n + operators a) most behind go _ (Reckoned_as a at) next (first words parts.0 line n at behind (omega (arith, ops)))
+      (λ left here m le. subst (λ t. Stands line most go (left_at m here t) (next left here)) (sym (turn-arithmetic o both.0 left (reckoning arrays b) line scalars go))
+      (then_stands line (m + operators b) most (λ v. done_with line (apply o left v) go) go _ (Reckoned_as b here) (λ other there. result_at there (apply o left other))
+      (second words parts.1 line m here (λ v. done_with line (apply o left v) go) (omega (arith, ops)))
+      (λ right there k less. by_result line most k there go (apply o left right) (omega (arith, ops)) (omega (arith, ops)))))))
 
   not_allowed : (e : Expr) → ((words : Bool) → is_allowed array outer inner e words ≡ false) → StandsBy e
   not_allowed e none words allowed = absurd (false≢true (sym (none words) ∙ allowed))
@@ -147,8 +146,8 @@ module _ (array size outer inner : ℕ) (scalars reads : List ℤ) where
 
   pub write_stands : (piece : Piece) (place value : Expr) (line : Line) → IsTrue (is_allowed array outer inner place false) → IsTrue (is_allowed array outer inner value true) → operators place + operators value ≤ 12
       → stop_told (stop_at piece (left_at 0 0 (reckoning arrays place line scalars (λ at. reckoning arrays value line scalars (λ v. inside line (located arrays array at) (λ a p. writing line None a p v Finished))))))
-        ≡ Some (stop_with line (Reckoned_as place 0) (λ at here. stop_with line (Reckoned_as value here) (λ v there. store_at (sizes_of arrays) line v (located arrays array at))))
+      ≡ Some (stop_with line (Reckoned_as place 0) (λ at here. stop_with line (Reckoned_as value here) (λ v there. store_at (sizes_of arrays) line v (located arrays array at))))
   write_stands piece place value line place_allowed value_allowed few =
       told_behind piece line (0 + operators place) _ _ (Reckoned_as place 0) _ (stands place false place_allowed line 0 0 _ (omega arith))
-        (λ at here m le. told_behind piece line (m + operators value) _ _ (Reckoned_as value here) _ (stands value true value_allowed line m here _ (omega arith))
-          (λ v there k less. at_store piece (located arrays array at) line k there v))
+      (λ at here m le. told_behind piece line (m + operators value) _ _ (Reckoned_as value here) _ (stands value true value_allowed line m here _ (omega arith))
+      (λ v there k less. at_store piece (located arrays array at) line k there v))

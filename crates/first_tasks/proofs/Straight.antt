@@ -1,19 +1,17 @@
 -- The cut turn of an iteration of the first form is straight: a few reads, and then a trap, or a write and the end. It has
 -- no pause, since it has too few operations.
-use Rattle.std.proofs.Common.{◌≡◌, ℕ, zero, suc, ◌+◌, ◌≤◌, ◌<◌, ℤ, pos, negsuc, nat_lt, Bool, true, false, ◌&&◌, ◌==◌, ◌||◌, if◌then◌else◌, IsTrue, Option, Some, None, Ok, List, [], ◌∷◌, refl, sym, ap, ◌∙◌, subst, arith}
+use Rattle.std.proofs.Common.{◌≡◌, ℕ, zero, suc, ◌+◌, ◌≤◌, ◌<◌, ℤ, pos, negsuc, nat_lt, Bool, true, false, ◌&&◌, ◌==◌, if◌then◌else◌, IsTrue, Option, Some, None, List, [], ◌∷◌, refl, sym, ap, ◌∙◌, subst, arith}
 use Rattle.std.proofs.lemmas.Bool.{and_parts, false≢true, ne_eqb, ltb-true}
 use Rattle.nest_syntax.specs.declared.names.Line.{Line}
 use Rattle.nest_syntax.specs.declared.operators.Bin.{Bin}
-use Rattle.nest_syntax.specs.declared.operators.Un.{Un}
 use Rattle.nest_syntax.specs.declared.tree.Expr.{Expr}
 use Rattle.nest_syntax.specs.declared.tree.Expr.TheOpen.{Expr-F}
 use Rattle.nest_syntax.specs.declared.tree.Expr.TheFolds.{fold-roll-Expr}
 use Rattle.nest_syntax.specs.declared.tree.Expr.TheVariants as expr
 use Rattle.nest_syntax.specs.declared.tree.Expr.TheVariants.{rolls-Number, rolls-Scalar, rolls-Word, rolls-Unary, rolls-Binary, rolls-Choice}
-use Rattle.nest_syntax.specs.Words.{apply}
 use Rattle.std.specs.Option.{option_map, option_and_then}
 use Rattle.nest_syntax.specs.Arrays.{Array, sizes_of, located, place_of, word_number}
-use Rattle.nest_syntax.specs.Turn.{Turn, Finished, Load, Store, Op, Reckoning, reckoning, done_with, inside, writing}
+use Rattle.nest_syntax.specs.Turn.{Turn, Finished, Load, Op, Reckoning, reckoning, done_with, inside, writing}
 use Rattle.nest_syntax.specs.FirstForm.{First, IsKept, is_allowed, is_arithmetic, operators, node_operators}
 use Rattle.nest_syntax.proofs.Equations.{reckoning-number, reckoning-scalar, reckoning-word, reckoning-binary}
 use Rattle.addr_slice.proofs.Nodes.{expr_induction, allowed-unary, allowed-binary, allowed-word, allowed-choice}
@@ -71,8 +69,8 @@ module _ (array size outer inner : ℕ) (scalars : List ℤ) where
   at_variable : (e : Expr) (v : ℤ) → words_in e ≡ 0 → ((line : Line) (go : ℤ → Turn) → reckoning arrays e line scalars go ≡ go v) → GoesStraight e
   at_variable e v none is words allowed line n most go few straight =
       subst (λ k. IsStraight size (k + most) (cut (sizes_of arrays) n (reckoning arrays e line scalars go))) (sym none)
-        (subst (λ k. IsStraight size k (cut (sizes_of arrays) n (reckoning arrays e line scalars go))) same
-          (subst (λ t. IsStraight size most (cut (sizes_of arrays) n t)) (sym (is line go)) (straight v n (omega arith))))
+      (subst (λ k. IsStraight size k (cut (sizes_of arrays) n (reckoning arrays e line scalars go))) same
+      (subst (λ t. IsStraight size most (cut (sizes_of arrays) n t)) (sym (is line go)) (straight v n (omega arith))))
     where
       same : most ≡ 0 + most
       same = omega arith
@@ -104,9 +102,9 @@ module _ (array size outer inner : ℕ) (scalars : List ℤ) where
       let place_allowed = and_parts (name == array) (is_allowed array outer inner place false) (and_parts words (name == array && is_allowed array outer inner place false) (sym (allowed-word array outer inner words name place) ∙ allowed)).1 in
       let count : words_in place + suc most ≡ words_in (expr.Word name place) + most = omega (arith, words-word name place) in
       subst (λ k. IsStraight size k (cut (sizes_of arrays) n (reckoning arrays (expr.Word name place) line scalars go))) count
-        (subst (λ (r : Reckoning). IsStraight size (words_in place + suc most) (cut (sizes_of arrays) n (r line scalars go))) (sym (reckoning-word arrays name place))
-          (is false place_allowed.1 line n (suc most) (λ at. inside line (located arrays name at) (λ a p. Load a p go)) (omega (arith, ops))
-            (λ at m le. at_place (located arrays name at) (λ p e. located_inside name at p e) line m most go (λ value. straight value 0 (omega arith)))))
+      (subst (λ (r : Reckoning). IsStraight size (words_in place + suc most) (cut (sizes_of arrays) n (r line scalars go))) (sym (reckoning-word arrays name place))
+      (is false place_allowed.1 line n (suc most) (λ at. inside line (located arrays name at) (λ a p. Load a p go)) (omega (arith, ops))
+      (λ at m le. at_place (located arrays name at) (λ p e. located_inside name at p e) line m most go (λ value. straight value 0 (omega arith)))))
 
   at_binary : (o : Bin) (a b : Expr) → GoesStraight a → GoesStraight b → GoesStraight (expr.Binary o a b)
   at_binary o a b first second words allowed line n most go few straight =
@@ -115,14 +113,14 @@ module _ (array size outer inner : ℕ) (scalars : List ℤ) where
       let ops = operators-binary o a b in
       let count : words_in a + (words_in b + most) ≡ words_in (expr.Binary o a b) + most = omega (arith, words-binary o a b) in
       subst (λ k. IsStraight size k (cut (sizes_of arrays) n (reckoning arrays (expr.Binary o a b) line scalars go))) count
-        (subst (λ (r : Reckoning). IsStraight size (words_in a + (words_in b + most)) (cut (sizes_of arrays) n (r line scalars go))) (sym (reckoning-binary arrays o a b))
-          (first words parts.0 line n (words_in b + most) _ (omega (arith, ops))
-            (λ left m le. subst (λ t. IsStraight size (words_in b + most) (cut (sizes_of arrays) m t)) (sym (turn-arithmetic o both.0 left (reckoning arrays b) line scalars go))
-              (second words parts.1 line m most _ (omega (arith, ops))
-                (λ right k less.
-                  let done = arithmetic o both.0 left right in
-                  subst (λ r. IsStraight size most (cut (sizes_of arrays) k (done_with line r go))) (sym done.1)
-                    (subst (IsStraight size most) (sym (cut-op (sizes_of arrays) k (go done.0) (omega (arith, ops)))) (straight done.0 (suc k) (omega (arith, ops)))))))))
+      (subst (λ (r : Reckoning). IsStraight size (words_in a + (words_in b + most)) (cut (sizes_of arrays) n (r line scalars go))) (sym (reckoning-binary arrays o a b))
+      (first words parts.0 line n (words_in b + most) _ (omega (arith, ops))
+      (λ left m le. subst (λ t. IsStraight size (words_in b + most) (cut (sizes_of arrays) m t)) (sym (turn-arithmetic o both.0 left (reckoning arrays b) line scalars go))
+      (second words parts.1 line m most _ (omega (arith, ops))
+      (λ right k less.
+      let done = arithmetic o both.0 left right in
+      subst (λ r. IsStraight size most (cut (sizes_of arrays) k (done_with line r go))) (sym done.1)
+      (subst (IsStraight size most) (sym (cut-op (sizes_of arrays) k (go done.0) (omega (arith, ops)))) (straight done.0 (suc k) (omega (arith, ops)))))))))
 
   refused : (e : Expr) → ((words : Bool) → is_allowed array outer inner e words ≡ false) → GoesStraight e
   refused e not_allowed words allowed = absurd (false≢true (sym (not_allowed words) ∙ allowed))
@@ -145,8 +143,8 @@ module _ (array size outer inner : ℕ) (scalars : List ℤ) where
       → IsStraight size (words_in place + words_in value) (cut (sizes_of arrays) 0 (reckoning arrays place line scalars (λ at. reckoning arrays value line scalars (λ v. inside line (located arrays array at) (λ a p. writing line None a p v Finished)))))
   write_straight place value line place_allowed value_allowed few =
       goes_straight place false place_allowed line 0 (words_in value) _ (omega arith)
-        (λ at m le. subst (λ k. IsStraight size k (cut (sizes_of arrays) m (reckoning arrays value line scalars (λ v. inside line (located arrays array at) (λ a p. writing line None a p v Finished))))) same
-          (goes_straight value true value_allowed line m 0 _ (omega arith) (λ v k less. at_write (located arrays array at) (λ p e. located_inside array at p e) line k v)))
+      (λ at m le. subst (λ k. IsStraight size k (cut (sizes_of arrays) m (reckoning arrays value line scalars (λ v. inside line (located arrays array at) (λ a p. writing line None a p v Finished))))) same
+      (goes_straight value true value_allowed line m 0 _ (omega arith) (λ v k less. at_write (located arrays array at) (λ p e. located_inside array at p e) line k v)))
     where
       same : words_in value + 0 ≡ words_in value
       same = omega arith

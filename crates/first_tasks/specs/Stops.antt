@@ -1,7 +1,6 @@
 -- The stop of a piece of work as it is told, and how it is found: by how far the place and the value of the write get
 -- with the words read so far.
 use Rattle.std.specs.Prelude.{ℕ, ◌<◌, ℤ, Option, Some, None, List, length}
-use Rattle.std.specs.Option.{option_map_or}
 use Rattle.nest_syntax.specs.declared.names.Line.{Line}
 use Rattle.nest_syntax.specs.declared.operators.Cause.TheVariants.{Index}
 use Rattle.nest_syntax.specs.declared.tree.Expr.{Expr}
@@ -47,7 +46,7 @@ stop_with line (Trapped cause) go = Trap cause line
 abbrev pub stop_in : Frame → Line → Expr → Expr → List ℤ → Stop
 stop_in frame line place value reads =
     stop_with line (reckon (arrays_in frame) (scalars_of frame) reads place 0) (λ at here.
-        stop_with line (reckon (arrays_in frame) (scalars_of frame) reads value here) (λ new there. store_at (sizes_of (arrays_in frame)) line new (located (arrays_in frame) frame.array at)))
+    stop_with line (reckon (arrays_in frame) (scalars_of frame) reads value here) (λ new there. store_at (sizes_of (arrays_in frame)) line new (located (arrays_in frame) frame.array at)))
 
 abbrev pub frame_of : Program → Iteration → Frame
 frame_of program iteration = let first = first_of program in record { names = length program.names; array = first.array; length = first.length; outer = first.outer.name; inner = first.inner.name; iteration = iteration }

@@ -4,5 +4,4 @@ ghost use Rattle.first_tasks.specs.Setups.{SetupsAreRight};
 /// the cut turns say, the cursor follows the course, and iterations whose claims don't clash are apart.
 pub fn setups_are_right()
     ensures { SetupsAreRight }
-{
-}
+{}

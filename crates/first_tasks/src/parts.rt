@@ -117,7 +117,14 @@ fn only_write(block: &Items<Stmt>) -> Option<(Line, &Expr, &Expr)>
         → IsSomeAnd result (λ parts. (parts.0 ≡ line) × (parts.1.now ≡ place) × (parts.2.now ≡ value)) }
 {
     match block.get(0) {
-        Some(Stmt::Write { line, place, value, .. }) => Some((*line, place, value)),
+        Some(
+            Stmt::Write {
+                line,
+                place,
+                value,
+                ..
+            },
+        ) => Some((*line, place, value)),
         _ => None,
     }
 }
