@@ -36,6 +36,7 @@ later-greatest P Q (suc n) = go (P n) (Q n) (later-greatest P Q n)
   where
     more : (R : ℕ → Bool) (b : ℕ) → greatest R n ≡ Some b → b < suc n
     more R b is = let less = greatest-less R n b is in omega arith
+
     go : (s t : Bool) → later (greatest P n) (greatest Q n) ≡ greatest (λ j. P j || Q j) n → later (if s then Some n else greatest P n) (if t then Some n else greatest Q n) ≡ (if s || t then Some n else greatest (λ j. P j || Q j) n)
     go true true rest = later-first n (Some n) (λ b e. let same : n ≡ b = cc in omega arith)
     go true false rest = later-first n (greatest Q n) (more Q)
@@ -102,7 +103,7 @@ module _ (program : Program) (kept : IsKept (first_of program)) (width k : ℕ) 
 
     clash-is : (w : ℕ) (write : Bool) (before : Option ℕ) (met : ℕ → Bool) → w < (first_of program).length → before ≡ greatest (λ j. mine j && met j) k
         → later before (if write then later (slice_index_or shadow.writes.items (at w) None) (slice_index_or shadow.reads.items (at w) None) else slice_index_or shadow.writes.items (at w) None)
-          ≡ greatest (λ j. mine j && (met j || meets_by write true w j)) k
+        ≡ greatest (λ j. mine j && (met j || meets_by write true w j)) k
     clash-is w true before met below e =
         ap (λ o. later before (later o (slice_index_or shadow.reads.items (at w) None))) (write-is w below)
         ∙ ap (λ o. later before (later (greatest (λ j. mine j && claims_word program j w true) k) o)) (read-is w below)
@@ -126,7 +127,7 @@ module _ (program : Program) (kept : IsKept (first_of program)) (width k : ℕ) 
       where
         by_claim : (claimed : Bool) → last_below shadow u w ≡ greatest (λ j. mine j && meets_below w j) k
             → (if claimed then later (last_below shadow u w) (if has own_claims w true then later (slice_index_or shadow.writes.items (at w) None) (slice_index_or shadow.reads.items (at w) None) else slice_index_or shadow.writes.items (at w) None) else last_below shadow u w)
-              ≡ greatest (λ j. mine j && (meets_below w j || meets_by (has own_claims w true) claimed w j)) k
+            ≡ greatest (λ j. mine j && (meets_below w j || meets_by (has own_claims w true) claimed w j)) k
         by_claim true rest = clash-is w (has own_claims w true) (last_below shadow u w) (meets_below w) (omega arith) rest
         by_claim false rest = rest ∙ greatest-ext (λ j. mine j && meets_below w j) (λ j. mine j && (meets_below w j || false)) k (λ j. ap (λ b. mine j && b) (sym (or-nothing (meets_below w j))))
 
@@ -175,13 +176,13 @@ module _ (program : Program) (kept : IsKept (first_of program)) (width k : ℕ) 
       let parts = and_parts (there.first.word == there.second.word) (there.first.write || there.second.write) there.collides in
       let same : there.first.word ≡ there.second.word = eqb-true there.first.word there.second.word parts.0 in
       meetings (first_of program).length there.second.word j there.inside
-        (meets_of_claims there.second.word j there.first.write there.second.write (subst (λ w. claims_word program j w there.first.write ≡ true) same there.of_first) there.of_second parts.1)
+      (meets_of_claims there.second.word j there.first.write there.second.write (subst (λ w. claims_word program j w there.first.write ≡ true) same there.of_first) there.of_second parts.1)
 
   pub need-is : shadow.claims ≡ own_claims → (u : ℕ) → u < width → last_below shadow u (first_of program).length ≡ greatest_clash (clashes program) width k u k
   need-is is u own =
       last-is is u own (first_of program).length (omega arith)
       ∙ greatest-ext (λ j. (j % width == u) && meets_below (first_of program).length j) (λ j. (j % width == u) && clashes program j k) k
-          (λ j. ap (λ b. (j % width == u) && b) (same_truth (meets_below (first_of program).length j) (clashes program j k) (clash_of_meetings (first_of program).length j) (meetings_of_clash j)))
+      (λ j. ap (λ b. (j % width == u) && b) (same_truth (meets_below (first_of program).length j) (clashes program j k) (clash_of_meetings (first_of program).length j) (meetings_of_clash j)))
       ∙ sym (clash-greatest program width k u k)
 
 -- waits with the same needs are the same

@@ -57,6 +57,7 @@ listed_more xs waits x count = ⊎_elim room full (cases_lt waits 64)
         ∙ map-push xs x (63 - length xs)
         ∙ ap (λ k. map placed (xs ++ x ∷ []) ++ replicate k None) same
         ∙ ap places_of (sym (take_all 64 (xs ++ x ∷ []) (omega arith)))
+
     full : 64 ≤ waits → set (places_of xs) waits (placed x) ≡ places_of (take 64 (xs ++ x ∷ []))
     full past =
         let all : length xs ≡ 64 = omega arith in
@@ -82,7 +83,7 @@ module _ (report : Report) (first : ℕ) (w : Wait) (kept : IsTallied report (ta
   pub note_kept : IsTallied after (tallied after first)
   note_kept = record {
     is = ap (λ (r : Report). let s : Report = record r { waits = report.waits + 1; crossing = report.crossing + (if nat_lt w.number first then 1 else 0); first_waits = after.first_waits } in s) kept.is
-         ∙ ap (λ (ps : List (Option Place)). let s : Report = record (report_of report.options (tallied report first).facts) { waits = report.waits + 1; crossing = report.crossing + (if nat_lt w.number first then 1 else 0); first_waits = ps } in s) (places-after ∙ ap places_of (sym listed-after));
+        ∙ ap (λ (ps : List (Option Place)). let s : Report = record (report_of report.options (tallied report first).facts) { waits = report.waits + 1; crossing = report.crossing + (if nat_lt w.number first then 1 else 0); first_waits = ps } in s) (places-after ∙ ap places_of (sym listed-after));
     count = ap length listed-after ∙ length-take 64 (xs ++ one ∷ []) ∙ (let longer : length (xs ++ one ∷ []) ≡ length xs + 1 = length-append xs (one ∷ []) in let n : length xs ≡ min report.waits 64 = kept.count in let e : min 64 (length (xs ++ one ∷ [])) ≡ min (report.waits + 1) 64 = omega arith in e);
   }
 
@@ -106,7 +107,7 @@ more_waits facts w waits =
     let ls = map (listed_at facts.iterations facts.first) waits in
     let counts : suc facts.waits + length waits ≡ facts.waits + suc (length waits) = omega arith in
     let crosses : facts.crossing + (if nat_lt w.number facts.first then 1 else 0) + count_by (λ (x : Listed). x.crossing) ls ≡ facts.crossing + count_by (λ (x : Listed). x.crossing) (l ∷ ls) =
-        omega (arith, sum_by-cons (λ (x : Listed). if x.crossing then 1 else 0) l ls) in
+    omega (arith, sum_by-cons (λ (x : Listed). if x.crossing then 1 else 0) l ls) in
     let lists : take 64 (take 64 (facts.listed ++ l ∷ []) ++ ls) ≡ take 64 (facts.listed ++ l ∷ ls) = take-first 64 (facts.listed ++ l ∷ []) ls ∙ ap (take 64) (append_assoc facts.listed (l ∷ []) ls) in
     ap (λ (n : ℕ). let f : Facts = record (iterated waits (with_wait facts w)) { waits = n } in f) counts
     ∙ ap (λ (n : ℕ). let f : Facts = record (iterated waits (with_wait facts w)) { waits = facts.waits + suc (length waits); crossing = n } in f) crosses

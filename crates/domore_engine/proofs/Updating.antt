@@ -61,15 +61,16 @@ module _ (width number words : ℕ) (some : 0 < width) (flag claimed : ℕ → B
       elsewhere apart =
           kept (λ same. apart (same_word width word w u own worker mine same)) ∙ noted word u below worker
           ∙ ⊎_elim
-              (λ (low : word < from). let le : from ≤ w = next.0 in further from (w + 1) word u low (omega arith))
-              (λ (high : from ≤ word). behind from word u high ∙ sym (⊎_elim
-                  (λ (between : word < w). unclaimed (w + 1) word u (not_flag word (next.2 word high between)))
-                  (λ (past : w ≤ word). behind (w + 1) word u (above word w apart past))
-                  (cases_lt word w)))
-              (cases_lt word from)
+          (λ (low : word < from). let le : from ≤ w = next.0 in further from (w + 1) word u low (omega arith))
+          (λ (high : from ≤ word). behind from word u high ∙ sym (⊎_elim
+          (λ (between : word < w). unclaimed (w + 1) word u (not_flag word (next.2 word high between)))
+          (λ (past : w ≤ word). behind (w + 1) word u (above word w apart past))
+          (cases_lt word w)))
+          (cases_lt word from)
         where
           above : (word w : ℕ) → (word ≡ w → ⊥) → w ≤ word → w + 1 ≤ word
           above word w ne le = omega arith
+
           not_flag : (word : ℕ) → claimed word ≡ false → flag word ≡ false
           not_flag word none = go (flag word) refl
             where
@@ -82,6 +83,7 @@ module _ (width number words : ℕ) (some : 0 < width) (flag claimed : ℕ → B
         where
           le : from ≤ word
           le = let e : from ≤ w = next.0 in omega arith
+
           written : flag w ≡ true → own ≡ u → get_or (if flag w then set l (w * width + own) (Some number) else l) (word * width + u) None ≡ noted_at number width (w + 1) word u (flag word) (before word u)
           written is mine_too =
               let place : w * width + own < length l = grind (arith, long, mul-le-mul_left) in
@@ -89,9 +91,11 @@ module _ (width number words : ℕ) (some : 0 < width) (flag claimed : ℕ → B
               ∙ ap (λ i. get_or (set l (w * width + own) (Some number)) i None) (ap (λ x. x * width + u) same ∙ ap (λ x. w * width + x) (sym mine_too))
               ∙ get_or-set_same l (w * width + own) (Some number) None place
               ∙ sym (subst (λ x. noted_at number width (w + 1) word x (flag word) (before word x) ≡ Some number) mine_too (here (w + 1) word (omega arith) (ap flag same ∙ is)))
+
           not_own : (own ≡ u → ⊥) → get_or (if flag w then set l (w * width + own) (Some number) else l) (word * width + u) None ≡ noted_at number width (w + 1) word u (flag word) (before word u)
           not_own other =
               kept (λ e. other (sym (same_worker width w u own (ap (λ x. x * width + u) (sym same) ∙ e)))) ∙ noted word u below worker ∙ behind from word u le ∙ sym (others (w + 1) word u other)
+
           not_claimed : flag w ≡ false → get_or (if flag w then set l (w * width + own) (Some number) else l) (word * width + u) None ≡ noted_at number width (w + 1) word u (flag word) (before word u)
           not_claimed none =
               ap (λ b. get_or (if b then set l (w * width + own) (Some number) else l) (word * width + u) None) none ∙ noted word u below worker ∙ behind from word u le ∙ sym (unclaimed (w + 1) word u (ap flag same ∙ none))
@@ -113,11 +117,11 @@ updated_next old now new number from w some read_places write_places upd next in
     let there : w < words = subst (λ (c : Claimed). w < words_of c) upd.claims inside in
     let from_old : IsNext (is_claimed old.claims) from (Some w) = subst (λ (c : Claimed). IsNext (is_claimed c) from (Some w)) upd.claims next in
     let reads_are : new.reads.items ≡ (if has old.claims w false then set now.reads.items (w * width + number % width) (Some number) else now.reads.items) =
-        reads ∙ ap (λ (c : Claimed). if has c w false then set now.reads.items (w * now.workers + number % width) (Some number) else now.reads.items) upd.claims
-        ∙ ap (λ n. if has old.claims w false then set now.reads.items (w * n + number % width) (Some number) else now.reads.items) upd.workers in
+    reads ∙ ap (λ (c : Claimed). if has c w false then set now.reads.items (w * now.workers + number % width) (Some number) else now.reads.items) upd.claims
+    ∙ ap (λ n. if has old.claims w false then set now.reads.items (w * n + number % width) (Some number) else now.reads.items) upd.workers in
     let writes_are : new.writes.items ≡ (if has old.claims w true then set now.writes.items (w * width + number % width) (Some number) else now.writes.items) =
-        writes ∙ ap (λ (c : Claimed). if has c w true then set now.writes.items (w * now.workers + number % width) (Some number) else now.writes.items) upd.claims
-        ∙ ap (λ n. if has old.claims w true then set now.writes.items (w * n + number % width) (Some number) else now.writes.items) upd.workers in
+    writes ∙ ap (λ (c : Claimed). if has c w true then set now.writes.items (w * now.workers + number % width) (Some number) else now.writes.items) upd.claims
+    ∙ ap (λ n. if has old.claims w true then set now.writes.items (w * n + number % width) (Some number) else now.writes.items) upd.workers in
     record {
       claims = claims ∙ upd.claims;
       workers = workers ∙ upd.workers;

@@ -111,16 +111,17 @@ stays e f actor other allowed reached over is =
     let way = stepped e f other is in
     let past = behind e reached in
     subst (λ (g : Engine). asked g actor ≡ Ended) (sym way.new)
-      (is_ended (record e { state = way.state }) actor
-        (ended.stay Iteration Position Piece (setup_in e) (nest_in e.job) (cut_turn (program_in e.job)) Region (setup_right e.job e.options allowed) past.history e.state way.state actor other past.leads (ended_is (has_ended e actor) (move_of e actor) over) way.stepped))
+    (is_ended (record e { state = way.state }) actor
+    (ended.stay Iteration Position Piece (setup_in e) (nest_in e.job) (cut_turn (program_in e.job)) Region (setup_right e.job e.options allowed) past.history e.state way.state actor other past.leads (ended_is (has_ended e actor) (move_of e actor) over) way.stepped))
 
 -- the machine is finished exactly where all are ended
 pub finishes : (e : Engine) → IsInRange e.options → IsReached step (opening e.job e.options) e → (is_finished e ≡ true) ↔ AllEnded asked e (actors_of e.options)
 finishes e allowed reached =
     let past = behind e reached in
-    let both = ended.finishes Iteration Position Piece (setup_in e) (nest_in e.job) (cut_turn (program_in e.job)) Region (setup_right e.job e.options allowed) past.history e.state past.leads in
-    ((λ over. λ actor below. is_ended e actor (both.0 over actor below)),
-     (λ all. both.1 (λ actor below. ended_is (has_ended e actor) (move_of e actor) (all actor below))))
+    let both = ended.finishes Iteration Position Piece (setup_in e) (nest_in e.job) (cut_turn (program_in e.job)) Region (setup_right e.job e.options allowed) past.history e.state past.leads in (
+      (λ over. λ actor below. is_ended e actor (both.0 over actor below)),
+      (λ all. both.1 (λ actor below. ended_is (has_ended e actor) (move_of e actor) (all actor below))),
+    )
 
 -- each step makes the measure smaller
 pub falls : (e f : Engine) (actor : ℕ) → IsInRange e.options → IsReached step (opening e.job e.options) e → step e actor ≡ Some f → measure f + 1 ≤ measure e

@@ -55,7 +55,12 @@ impl Domore {
     pub(crate) fn row(&self, actor: u8) -> Option<Row>
         ensures { result ≡ option_map row_of (move_of self.now actor) }
     {
-        self.table.row(self.job.program(), self.options.workers, self.options.queue, actor)
+        self.table.row(
+            self.job.program(),
+            self.options.workers,
+            self.options.queue,
+            actor,
+        )
     }
 
     // Makes that row.

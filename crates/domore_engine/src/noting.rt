@@ -34,7 +34,12 @@ impl Shadow {
     }
 
     /// The waits of the next iteration, whose claims are then noted.
-    pub(crate) fn hand_out(&mut self, program: &Program, iteration: Iteration, number: u64) -> ArrayVec<Wait, 8>
+    pub(crate) fn hand_out(
+        &mut self,
+        program: &Program,
+        iteration: Iteration,
+        number: u64,
+    ) -> ArrayVec<Wait, 8>
         requires form { IsFirstForm program.now }
         requires few { self.old.workers ≤ 8 }
         requires some { 0 < self.old.workers }

@@ -62,7 +62,11 @@ impl Table {
     fn next_row(&self, number: u64) -> Row
         ensures { result ≡ (if machine.is_above self.now.trap number then Row.Drop else Row.Take) }
     {
-        if self.is_above(number) { Row::Drop } else { Row::Take }
+        if self.is_above(number) {
+            Row::Drop
+        } else {
+            Row::Take
+        }
     }
 
     fn waiting_row(&self, number: u64, wait: Wait) -> Option<Row>
@@ -80,7 +84,11 @@ impl Table {
     fn standing_row(&self, number: u64, standing: Option<Row>) -> Option<Row>
         ensures { result ≡ (if machine.is_above self.now.trap number then Some Row.Drop else standing) }
     {
-        if self.is_above(number) { Some(Row::Drop) } else { standing }
+        if self.is_above(number) {
+            Some(Row::Drop)
+        } else {
+            standing
+        }
     }
 
     fn scheduler_row(&self, program: &Program, room: u16) -> Option<Row>
@@ -120,7 +128,11 @@ impl Table {
         ensures { result ≡ (if nat_lt (length (machine.seat_at self.now.seats.items (self.now.next % length self.now.seats.items)).queue) room then Some Row.Dispatch else None) }
     {
         let own = (self.next % self.seats.len() as u64) as usize;
-        if self.seats[own].tickets() < room as usize { Some(Row::Dispatch) } else { None }
+        if self.seats[own].tickets() < room as usize {
+            Some(Row::Dispatch)
+        } else {
+            None
+        }
     }
 
     /// The number of the iteration that a worker holds, and else of its first ticket.

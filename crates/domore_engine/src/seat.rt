@@ -11,8 +11,8 @@ ghost use Rattle.domore_engine.specs.Stages.{stage_of, number_at};
 
 use crate::hand::Held;
 use crate::stage::Stage;
-use crate::ticket::Ticket;
 use crate::tasks::stop_at;
+use crate::ticket::Ticket;
 use first_tasks::{Piece, Stop};
 use nest_syntax::{NoMemory, Program};
 use std::alloc::Global;
@@ -147,7 +147,11 @@ impl Seat {
             → self.new ≡ record self.old { hand = machine.Holding t.number t.waits (entry t.body); queue = queue } }
     {
         if let Some(ticket) = self.queue.pop_front() {
-            let Ticket { number, iteration, waits } = ticket;
+            let Ticket {
+                number,
+                iteration,
+                waits,
+            } = ticket;
             self.hand = Held::Task {
                 number,
                 waits,

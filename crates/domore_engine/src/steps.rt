@@ -24,7 +24,14 @@ use progress_board::Row;
 
 impl Table {
     /// Makes the enabled row of a worker.
-    pub(crate) fn make_worker(&mut self, program: &Program, workers: u8, room: u16, worker: u8, row: Row)
+    pub(crate) fn make_worker(
+        &mut self,
+        program: &Program,
+        workers: u8,
+        room: u16,
+        worker: u8,
+        row: Row,
+    )
         requires form { IsFirstForm program.now }
         requires own { worker < workers }
         requires seats { length self.old.seats.items ≡ workers }
@@ -183,12 +190,6 @@ fn least_trap(old: Option<Place>, new: Place) -> Place
 {
     match old {
         None => new,
-        Some(kept) => {
-            if new.number < kept.number {
-                new
-            } else {
-                kept
-            }
-        }
+        Some(kept) => { if new.number < kept.number { new } else { kept } }
     }
 }

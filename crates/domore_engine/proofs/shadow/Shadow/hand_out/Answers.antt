@@ -37,9 +37,9 @@ returns-clause-noted c =
     let words : words_of c.claim.new.into ≡ (first_of p).length = words_claimed c.claim.new.into (claims_in (first_form c.args.program.now) c.args.iteration) (words_of c.args.self.now.claims) c.claim.ensures ∙ old.room in
     let claims_are : c.claim.new.into ≡ with_claims (no_claims (first_of p).length) (claims_numbered p k) = c.claim.ensures ∙ ap (λ n. with_claims (no_claims n) (claims_in p c.args.iteration)) old.room ∙ ap (λ i. with_claims (no_claims (first_of p).length) (claims_in p i)) c.requires.next in
     let more = λ (word u : ℕ) (v : Bool) (before after : Option ℕ) (below : word < (first_of p).length) (is : before ≡ after).
-        ap (λ b. if b && ((k % w == u) && has c.claim.new.into word v) then Some k else before) (lt-ltb word (words_of c.claim.new.into) (subst (λ n. word < n) (sym words) below))
-        ∙ ap (λ (cs : Claimed). if (k % w == u) && has cs word v then Some k else before) claims_are
-        ∙ ap (λ o. if (k % w == u) && claims_word p k word v then Some k else o) is in
+    ap (λ b. if b && ((k % w == u) && has c.claim.new.into word v) then Some k else before) (lt-ltb word (words_of c.claim.new.into) (subst (λ n. word < n) (sym words) below))
+    ∙ ap (λ (cs : Claimed). if (k % w == u) && has cs word v then Some k else before) claims_are
+    ∙ ap (λ o. if (k % w == u) && claims_word p k word v then Some k else o) is in
     record {
       room = ap words_of upd.claims ∙ words;
       width_is = upd.workers;

@@ -14,7 +14,7 @@ pub unreachable-requires : goal.unreachable-requires
 unreachable-requires c =
     let program = first_form c.args.program.now in
     other_row c.args.row c.in_default.not-Take c.in_default.not-Pass c.in_default.not-Hop c.in_default.not-Finish c.in_default.not-Trap c.in_default.not-Drop c.in_default.not-End
-      (row_of_worker program (form_of c.args.program.now) c.args.workers c.args.room (state_of c.args.self.now) (state_of c.args.self.now) c.args.worker c.args.row c.requires.own c.requires.enabled)
+    (row_of_worker program (form_of c.args.program.now) c.args.workers c.args.room (state_of c.args.self.now) (state_of c.args.self.now) c.args.worker c.args.row c.requires.own c.requires.enabled)
 
 pub returns-in-Hop-clause-state : goal.returns-in-Hop-clause-state
 returns-in-Hop-clause-state c = λ move is.

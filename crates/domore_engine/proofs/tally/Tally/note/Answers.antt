@@ -18,5 +18,5 @@ returns c =
     let b = c.count_if.ensures in
     let same : w ≡ c.args.wait = c.wait.view_is in
     rw (a, b) (note_is c.self.inside.report c.self.inside.first w c.self.invariant
-      ∙ ap (λ (t : Tallied). let u : Tallied = record t { facts = with_wait t.facts w } in u) c.self.view_is
-      ∙ ap (λ (v : Wait). let u : Tallied = record c.args.self.now { facts = with_wait c.args.self.now.facts v } in u) same)
+    ∙ ap (λ (t : Tallied). let u : Tallied = record t { facts = with_wait t.facts w } in u) c.self.view_is
+    ∙ ap (λ (v : Wait). let u : Tallied = record c.args.self.now { facts = with_wait c.args.self.now.facts v } in u) same)
