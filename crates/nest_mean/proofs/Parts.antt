@@ -1,5 +1,5 @@
 -- How the parts of a body run, put together.
-use Rattle.std.proofs.Common.{◌≡◌, ◌≢◌, ℕ, zero, suc, ◌+◌, ◌-◌, ◌<◌, ◌≤◌, ℤ, pos, Bool, true, false, if◌then◌else◌, Option, Some, None, Result, Ok, Err, List, [], ◌∷◌, ◌++◌, map, length, drop, get_or, refl, sym, ap, ◌∙◌, subst, arith, drop-cons, add-one}
+use Rattle.std.proofs.Common.{◌≡◌, ℕ, suc, ◌+◌, ◌-◌, ◌<◌, ◌≤◌, ℤ, false, Option, Some, None, Result, Ok, Err, List, [], ◌∷◌, map, length, drop, get_or, refl, sym, ap, ◌∙◌, subst, arith, drop-cons, add-one}
 use Rattle.std.specs.Option.{option_map, option_map_or, option_and_then}
 use Rattle.std.proofs.lemmas.List.{drop_all}
 use Rattle.nest_syntax.specs.declared.names.Line.{Line}
@@ -8,24 +8,22 @@ use Rattle.nest_syntax.specs.declared.operators.Op.{Op}
 use Rattle.nest_syntax.specs.declared.operators.Op.TheVariants as op
 use Rattle.nest_syntax.specs.declared.operators.Cause.{Cause}
 use Rattle.nest_syntax.specs.declared.tree.Expr.{Expr}
-use Rattle.nest_syntax.specs.declared.tree.Arm.{Arm}
-use Rattle.nest_syntax.specs.declared.tree.Loop.{Loop}
 use Rattle.nest_syntax.specs.declared.tree.Stmt.{Stmt}
 use Rattle.nest_syntax.specs.declared.tree.Stmt.TheVariants as stmt
 use Rattle.nest_syntax.specs.declared.tree.Stmt.TheOpen.{Stmt-F}
-use Rattle.nest_syntax.specs.Words.{is_zero, apply, operation_of, assigned, turns, counted, variable}
+use Rattle.nest_syntax.specs.Words.{apply, operation_of, assigned}
 use Rattle.nest_syntax.specs.Arrays.{Array, array_of, sizes_of, place_of, located, word_number, word_at, with_word}
 use Rattle.nest_syntax.specs.Value.{value, scalar_at, with_scalar}
-use Rattle.nest_syntax.specs.Turn.{Turn, Finished, Store, Op as Op', Go, Effect, reckoning, done_with, inside, assigning, writing, sequence, repeat, looping, choose, effect, effect_node, loop_effect}
-use Rattle.nest_syntax.specs.Reads.{Ended, Stopped, on_words}
-use Rattle.nest_syntax.proofs.Equations.{arm_effect, arm_effect-is, loop_effect-is, effect-declare, effect-assign, effect-write, effect-if, effect-loop}
+use Rattle.nest_syntax.specs.Turn.{Turn, Finished, Store, Op as Op', Go, Effect, reckoning, inside, assigning, writing, sequence, repeat, effect, effect_node}
+use Rattle.nest_syntax.specs.Reads.{Stopped, on_words}
+use Rattle.nest_syntax.proofs.Equations.{effect-declare}
 use Rattle.nest_syntax.proofs.Reckoned.{answered, done_with-answered, reckoned}
-use Rattle.word_store.specs.Memory.{Memory, number_at, loaded, stored}
+use Rattle.word_store.specs.Memory.{Memory, loaded, stored}
 use Rattle.nest_mean.specs.declared.bodies.TurnTrap.{TurnTrap}
-use Rattle.nest_mean.specs.NamesChanged.{joined, changed, changed_in_arm, changed_in_loop, names_changed, is_among, KeepsOthers}
+use Rattle.nest_mean.specs.NamesChanged.{changed, names_changed, is_among, KeepsOthers}
 use Rattle.nest_mean.specs.TurnRun.{ended}
-use Rattle.nest_mean.specs.TurnParts.{went_on_with, at_line, wrote, Runs, arm_taken, RunsArms}
-use Rattle.nest_mean.proofs.Names.{among_left, among_right, among_here, among_behind, among_part, keeps_same, keeps_then, keeps_more, keeps_set, changed-declare, changed-assign, changed-write, changed-if, changed-loop, changed_in_arm-is, changed_in_loop-is}
+use Rattle.nest_mean.specs.TurnParts.{went_on_with, at_line, Runs}
+use Rattle.nest_mean.proofs.Names.{among_here, among_behind, among_part, keeps_same, keeps_then, keeps_more, keeps_set, changed-declare}
 
 module _ (arrays : List Array) where
   -- what an expression does goes on with its value
@@ -114,7 +112,7 @@ module _ (arrays : List Array) where
     word_changes o name old memory' named sizes was becomes after =
         ap (λ a. on_words (sizes_of arrays) (inside line (option_and_then (λ (n : ℕ). option_map (λ (place : ℕ). (n, place)) (place_of (sizes_of arrays) n at)) a) (λ a n. writing line (operation_of o) a n right rest)) memory.words) named
         ∙ subst (λ sz. on_words sz (inside line (option_map (λ (place : ℕ). (array, place)) (place_of sz array at)) (λ a n. writing line (operation_of o) a n right rest)) memory.words ≡ on_words sz rest (stored memory array at new).words)
-            sizes (by_place o old (place_of memory.sizes array at) was becomes)
+        sizes (by_place o old (place_of memory.sizes array at) was becomes)
         ∙ ap (λ m. on_words (sizes_of arrays) rest m.words) (sym after)
 
   -- how far a list of statements, or the turns of a loop, have come: what is left goes on from these scalars and words
@@ -213,8 +211,8 @@ module _ (arrays : List Array) where
       turn_kept : (result : Result (Unit {0}) TurnTrap) → Runs arrays (sequence (map (effect arrays) body)) (names_changed body) result (with_scalar s name (variable_in k)) m s' m' → KeepsOthers (name ∷ names_changed body) s₀ s'
       turn_kept result runs = keeps_then (name ∷ names_changed body) s₀ s s' left.kept
           (keeps_then (name ∷ names_changed body) s (with_scalar s name (variable_in k)) s'
-            (keeps_set (name ∷ names_changed body) s name (variable_in k) (among_here name (names_changed body)))
-            (keeps_more (names_changed body) (name ∷ names_changed body) (with_scalar s name (variable_in k)) s' (among_behind name (names_changed body)) runs.kept))
+          (keeps_set (name ∷ names_changed body) s name (variable_in k) (among_here name (names_changed body)))
+          (keeps_more (names_changed body) (name ∷ names_changed body) (with_scalar s name (variable_in k)) s' (among_behind name (names_changed body)) runs.kept))
 
       pub turn_runs : Runs arrays (sequence (map (effect arrays) body)) (names_changed body) (Ok tt) (with_scalar s name (variable_in k)) m s' m'
           → IsLeft all_turns (turns_from (k + 1)) (name ∷ names_changed body) s₀ m₀ s' m'

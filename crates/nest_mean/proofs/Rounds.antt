@@ -1,10 +1,8 @@
 -- How the events, iterations and turns of a course are carried out, put together.
-use Rattle.std.proofs.Common.{◌≡◌, ℕ, zero, suc, ◌+◌, ◌-◌, ◌*◌, ◌^◌, ◌<◌, ◌≤◌, ℤ, pos, Bool, true, false, if◌then◌else◌, Result, Ok, Err, List, [], ◌∷◌, ◌++◌, map, length, refl, sym, ap, ◌∙◌, subst, arith, add-one}
+use Rattle.std.proofs.Common.{◌≡◌, ℕ, suc, ◌+◌, ◌-◌, ◌*◌, ◌^◌, ◌<◌, ◌≤◌, ℤ, Bool, true, false, if◌then◌else◌, Result, Ok, Err, List, ◌∷◌, length, refl, sym, ap, ◌∙◌, subst, arith, add-one}
 use Rattle.std.specs.List.{list_any}
-use Rattle.std.proofs.lemmas.List.{ext_get_or}
 use Rattle.std.proofs.Math.Nat.{mul-le-mul_left}
 use Rattle.nest_syntax.specs.declared.names.Line.{Line}
-use Rattle.nest_syntax.specs.declared.operators.Op.{Op}
 use Rattle.nest_syntax.specs.declared.operators.Cause.{Cause}
 use Rattle.nest_syntax.specs.declared.tree.Expr.{Expr}
 use Rattle.nest_syntax.specs.declared.tree.Loop.{Loop}
@@ -13,14 +11,14 @@ use Rattle.nest_syntax.specs.Words.{variable}
 use Rattle.nest_syntax.specs.Arrays.{Array, sizes_of}
 use Rattle.nest_syntax.specs.Value.{names_written, with_scalar}
 use Rattle.nest_syntax.specs.Turn.{Turn, turn_of}
-use Rattle.nest_syntax.specs.Reads.{Ended, on_words}
-use Rattle.nest_syntax.specs.Course.{Setting, Course, Purpose, Scalar, Iterate, Close, Item, computed, event, iterations, region_turns}
-use Rattle.nest_syntax.specs.Outcome.{Ending, TrappedAt, body_at, turn_in, behind, ending_from}
+use Rattle.nest_syntax.specs.Reads.{on_words}
+use Rattle.nest_syntax.specs.Course.{Setting, Course, Purpose, Iterate, Item, computed, event, iterations, region_turns}
+use Rattle.nest_syntax.specs.Outcome.{Ending, body_at, turn_in, behind, ending_from}
 use Rattle.word_store.specs.Memory.{Memory}
 use Rattle.nest_mean.specs.declared.bodies.TurnTrap.{TurnTrap}
 use Rattle.nest_mean.specs.declared.stops.Stop.{Stop}
 use Rattle.nest_mean.specs.declared.stops.Stop.TheVariants as stop
-use Rattle.nest_mean.specs.NamesChanged.{names_changed, changed_in_loop, is_among, KeepsOthers}
+use Rattle.nest_mean.specs.NamesChanged.{names_changed, changed_in_loop, KeepsOthers}
 use Rattle.nest_mean.specs.TurnRun.{ended}
 use Rattle.nest_mean.specs.CourseParts.{event_words, at_iteration, next_number, Stand, Reaches, Passes, Iterates, IteratesAll, PassesTurns}
 use Rattle.nest_mean.specs.Saved.{saved, put_back}
@@ -63,8 +61,8 @@ module _ (arrays : List Array) where
   iterates body names turned result s n m s' n' m' turn sizes kept answer count = record {
     same = λ bodies at is rest.
         reaches_from result _ _ _ (ap (λ b. behind n (on_words (sizes_of arrays) (turn_of arrays b s) m.words) (ending_from (sizes_of arrays) (turn_in arrays bodies) rest (suc n))) is
-          ∙ ap (λ e. behind n e (ending_from (sizes_of arrays) (turn_in arrays bodies) rest (suc n))) turn)
-          (by_end bodies rest turned answer count);
+        ∙ ap (λ e. behind n e (ending_from (sizes_of arrays) (turn_in arrays bodies) rest (suc n))) turn)
+        (by_end bodies rest turned answer count);
     sizes = sizes;
     few = few turned count;
     kept = kept;
@@ -124,15 +122,15 @@ module _ (arrays : List Array) where
           all_kept : KeepsOthers (changed_in_loop invoked) s₀ s'
           all_kept = subst (λ names. KeepsOthers names s₀ s') (sym (changed_in_loop-is invoked))
               (keeps_then (invoked.name ∷ names_changed invoked.body) s₀ start s'
-                (subst (λ t. KeepsOthers (invoked.name ∷ names_changed invoked.body) s₀ t) (ap (λ t. with_scalar t invoked.name (variable low invoked.step k)) (sym iterated.scalars) ∙ sym start_is)
-                  (keeps_set (invoked.name ∷ names_changed invoked.body) s₀ invoked.name (variable low invoked.step k) (among_here invoked.name (names_changed invoked.body))))
-                (keeps_more (names_changed invoked.body) (invoked.name ∷ names_changed invoked.body) start s' (among_behind invoked.name (names_changed invoked.body)) ran.kept))
+              (subst (λ t. KeepsOthers (invoked.name ∷ names_changed invoked.body) s₀ t) (ap (λ t. with_scalar t invoked.name (variable low invoked.step k)) (sym iterated.scalars) ∙ sym start_is)
+              (keeps_set (invoked.name ∷ names_changed invoked.body) s₀ invoked.name (variable low invoked.step k) (among_here invoked.name (names_changed invoked.body))))
+              (keeps_more (names_changed invoked.body) (invoked.name ∷ names_changed invoked.body) start s' (among_behind invoked.name (names_changed invoked.body)) ran.kept))
 
       pub iteration_stops : (stopped : Stop) → Iterates arrays invoked.body (names_changed invoked.body) (Err stopped) start n m s' n' m' → IteratesAll arrays invoked low count (Err stopped) s₀ n₀ m₀ s' n' m'
       iteration_stops stopped ran = record {
         same = λ bodies at is go.
             reaches_stop stopped (λ (_ : Unit {0}). ending_with bodies (iterations (count - (k + 1)) (k + 1) at scalars_in (go s₀)) n' m') _ _
-              (reaches_from (Err stopped) _ _ _ (round bodies at is (go s₀)) (ran.same bodies at is (iterations (count - (k + 1)) (k + 1) at scalars_in (go s₀))));
+            (reaches_from (Err stopped) _ _ _ (round bodies at is (go s₀)) (ran.same bodies at is (iterations (count - (k + 1)) (k + 1) at scalars_in (go s₀))));
         sizes = ran.sizes ∙ iterated.sizes;
         few = omega (arith, ran.few, iterated.few);
       }
@@ -190,7 +188,7 @@ module _ (arrays : List Array) where
       turn_ends stopped passed = record {
         same = λ bodies first stands go.
             reaches_stop stopped (λ (_ : Unit {0}). ending_of bodies (turns_left (count - (k + 1)) (k + 1) first s' go) n' m') _ _
-              (reaches_from (Err stopped) _ _ _ (turn bodies first stands go) (passed.same bodies first stands (λ after. turns_left (count - (k + 1)) (k + 1) first after go)));
+            (reaches_from (Err stopped) _ _ _ (turn bodies first stands go) (passed.same bodies first stands (λ after. turns_left (count - (k + 1)) (k + 1) first after go)));
         sizes = passed.sizes ∙ turned.sizes;
         few = let next : k + 1 ≤ count = omega arith in omega (arith, passed.few, turned.few, mul-le-mul_left (16777216 * length items.bodies) next);
       }

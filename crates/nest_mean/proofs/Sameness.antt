@@ -1,14 +1,14 @@
 -- The bodies of items don't depend on the arrays and the opening words, and all bodies of a program stand in order.
-use Rattle.std.proofs.Common.{◌≡◌, ℕ, suc, ◌+◌, List, [], ◌∷◌, ◌++◌, map, length, refl, sym, ap, ◌∙◌, subst, append_assoc, arith, length-append}
+use Rattle.std.proofs.Common.{◌≡◌, suc, ◌+◌, List, [], ◌∷◌, ◌++◌, map, length, refl, sym, ap, ◌∙◌, subst, append_assoc, arith, length-append}
 use Rattle.nest_syntax.specs.declared.tree.Arm.{Arm, roll-Arm}
 use Rattle.nest_syntax.specs.declared.tree.Loop.{Loop, roll-Loop}
 use Rattle.nest_syntax.specs.declared.tree.Stmt.{Stmt, roll-Stmt}
 use Rattle.nest_syntax.specs.declared.tree.Stmt.TheOpen.{Stmt-F, Arm-F, Loop-F}
-use Rattle.nest_syntax.specs.declared.tree.Stmt.TheFolds.{map-Stmt, map-Arm, map-Loop, ind-Stmt, ind-Loop, para-roll-Stmt, para-roll-Arm, para-roll-Loop}
+use Rattle.nest_syntax.specs.declared.tree.Stmt.TheFolds.{map-Stmt, map-Arm, map-Loop, ind-Loop, para-roll-Stmt, para-roll-Arm, para-roll-Loop}
 use Rattle.nest_syntax.specs.Course.{Setting, Item, Tested, Looped, in_order, chosen, item_node, tested_node, looped_node, item_of, looped_of, region_of}
 use Rattle.nest_syntax.specs.Outcome.{body_at}
 use Rattle.nest_syntax.proofs.Equations.{tested_of}
-use Rattle.nest_mean.specs.CourseParts.{Stand, items_in}
+use Rattle.nest_mean.specs.CourseParts.{Stand}
 use Rattle.nest_mean.proofs.Walk.{map_first}
 
 module _ (a b : Setting) where
@@ -67,12 +67,13 @@ module _ (a b : Setting) where
 
   loop_step : (x : Loop-F Stmt Arm Loop) (y : Loop-F A_stmt An_arm A_loop) → map-Loop A_stmt An_arm A_loop Stmt Arm Loop (λ q. q.0) (λ q. q.0) (λ q. q.0) y ≡ x → SameLooped (roll-Loop x)
   loop_step x y is = (
-      ap (λ (l : Looped). l.invocation.bodies) (para-roll-Loop Item Tested Looped (item_node a) (tested_node a) (looped_node a) x)
-      ∙ ap (λ body. body ∷ []) (map_first (item_of a) x.body ∙ sym (map_first (item_of b) x.body))
-      ∙ sym (ap (λ (l : Looped). l.invocation.bodies) (para-roll-Loop Item Tested Looped (item_node b) (tested_node b) (looped_node b) x)),
-      ap (λ (l : Looped). l.region.bodies) (para-roll-Loop Item Tested Looped (item_node a) (tested_node a) (looped_node a) x)
-      ∙ subst (λ z. (items_at a z.body).bodies ≡ (items_at b z.body).bodies) is (items_same y.body)
-      ∙ sym (ap (λ (l : Looped). l.region.bodies) (para-roll-Loop Item Tested Looped (item_node b) (tested_node b) (looped_node b) x)))
+    ap (λ (l : Looped). l.invocation.bodies) (para-roll-Loop Item Tested Looped (item_node a) (tested_node a) (looped_node a) x)
+        ∙ ap (λ body. body ∷ []) (map_first (item_of a) x.body ∙ sym (map_first (item_of b) x.body))
+        ∙ sym (ap (λ (l : Looped). l.invocation.bodies) (para-roll-Loop Item Tested Looped (item_node b) (tested_node b) (looped_node b) x)),
+    ap (λ (l : Looped). l.region.bodies) (para-roll-Loop Item Tested Looped (item_node a) (tested_node a) (looped_node a) x)
+        ∙ subst (λ z. (items_at a z.body).bodies ≡ (items_at b z.body).bodies) is (items_same y.body)
+        ∙ sym (ap (λ (l : Looped). l.region.bodies) (para-roll-Loop Item Tested Looped (item_node b) (tested_node b) (looped_node b) x)),
+  )
 
   pub same_looped : (l : Loop) → SameLooped l
   same_looped = ind-Loop SameItem SameTested SameLooped stmt_step arm_step loop_step
@@ -88,9 +89,10 @@ body_behind (first ∷ front) body back = body_behind front body back
 stand_behind : (front bodies : List (List Stmt)) → Stand (front ++ bodies) (length front) bodies
 stand_behind front [] = tt
 stand_behind front (body ∷ bodies) =
-    let longer : length (front ++ body ∷ []) ≡ suc (length front) = length-append front (body ∷ []) ∙ (let one : length front + 1 ≡ suc (length front) = omega arith in one) in
-    (body_behind front body bodies,
-     subst (λ all. Stand all (suc (length front)) bodies) (append_assoc front (body ∷ []) bodies) (subst (λ n. Stand ((front ++ body ∷ []) ++ bodies) n bodies) longer (stand_behind (front ++ body ∷ []) bodies)))
+    let longer : length (front ++ body ∷ []) ≡ suc (length front) = length-append front (body ∷ []) ∙ (let one : length front + 1 ≡ suc (length front) = omega arith in one) in (
+      body_behind front body bodies,
+      subst (λ all. Stand all (suc (length front)) bodies) (append_assoc front (body ∷ []) bodies) (subst (λ n. Stand ((front ++ body ∷ []) ++ bodies) n bodies) longer (stand_behind (front ++ body ∷ []) bodies)),
+    )
 
 -- all bodies stand from 0 on
 pub stand_all : (bodies : List (List Stmt)) → Stand bodies 0 bodies

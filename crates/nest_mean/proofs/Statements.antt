@@ -1,5 +1,5 @@
 -- How arms, loops and statements run, from how their parts do.
-use Rattle.std.proofs.Common.{◌≡◌, ◌≢◌, ℕ, suc, ◌+◌, ◌<◌, ◌≤◌, ℤ, Bool, true, false, if◌then◌else◌, Result, Ok, Err, List, [], ◌∷◌, ◌++◌, map, length, drop, get_or, refl, sym, ap, ◌∙◌, subst, drop-cons, add-one}
+use Rattle.std.proofs.Common.{◌≡◌, ℕ, suc, ◌+◌, ◌<◌, ◌≤◌, ℤ, Bool, true, false, if◌then◌else◌, Result, Ok, Err, List, map, length, drop, get_or, refl, sym, ap, ◌∙◌, subst, drop-cons, add-one}
 use Rattle.std.proofs.lemmas.List.{drop_all}
 use Rattle.nest_syntax.specs.declared.names.Line.{Line}
 use Rattle.nest_syntax.specs.declared.operators.Op.{Op}
@@ -13,14 +13,14 @@ use Rattle.nest_syntax.specs.Words.{is_zero, operation_of, turns, counted, varia
 use Rattle.nest_syntax.specs.Arrays.{Array, sizes_of, located}
 use Rattle.nest_syntax.specs.Value.{value}
 use Rattle.nest_syntax.specs.Turn.{Turn, Go, Effect, reckoning, inside, writing, sequence, repeat, looping, choose, effect, loop_effect}
-use Rattle.nest_syntax.specs.Reads.{Stopped, on_words}
-use Rattle.nest_syntax.proofs.Equations.{arm_effect, arm_effect-is, loop_effect-is, effect-write, effect-if, effect-loop}
+use Rattle.nest_syntax.specs.Reads.{on_words}
+use Rattle.nest_syntax.proofs.Equations.{arm_effect, arm_effect-is, loop_effect-is, effect-write, effect-if}
 use Rattle.word_store.specs.Memory.{Memory}
 use Rattle.nest_mean.specs.declared.bodies.TurnTrap.{TurnTrap}
 use Rattle.nest_mean.specs.NamesChanged.{joined, changed, changed_in_arm, changed_in_loop, names_changed, is_among, KeepsOthers}
-use Rattle.nest_mean.specs.TurnParts.{went_on_with, at_line, Runs, arm_taken, RunsArms}
+use Rattle.nest_mean.specs.TurnParts.{went_on_with, at_line, Runs, RunsArms}
 use Rattle.nest_mean.proofs.Names.{among_left, among_right, among_part, keeps_same, keeps_then, keeps_more, changed-if, changed_in_arm-is}
-use Rattle.nest_mean.proofs.Parts.{reckoned_at, runs_stops, runs_as}
+use Rattle.nest_mean.proofs.Parts.{reckoned_at, runs_stops}
 
 module _ (arrays : List Array) where
   -- arms, from place i on: those before it had a test that is 0

@@ -6,7 +6,7 @@ use Rattle.nest_syntax.specs.declared.names.Line.{Line}
 use Rattle.nest_syntax.specs.declared.operators.Op.{Op}
 use Rattle.nest_syntax.specs.declared.operators.Op.TheVariants as op
 use Rattle.nest_syntax.specs.declared.tree.Program.{Program}
-use Rattle.nest_syntax.specs.FirstForm.{IsFirstForm, First, loop_of, regions_of}
+use Rattle.nest_syntax.specs.FirstForm.{IsFirstForm, loop_of, regions_of}
 use Rattle.nest_syntax.specs.declared.tree.Expr.{Expr}
 use Rattle.nest_syntax.specs.declared.tree.Decl.{Decl}
 use Rattle.nest_syntax.specs.declared.tree.Decl.TheVariants as decl
@@ -18,8 +18,7 @@ use Rattle.nest_syntax.specs.Arrays.{arrays_of, sizes_of}
 use Rattle.nest_syntax.specs.Course.{Item, Tested, in_order, item_of, region_of, setting_of, bodies_of}
 use Rattle.nest_syntax.proofs.Equations.{tested_of, item-declare, item-assign, item-write, item-loop}
 use Rattle.word_store.specs.Memory.{Memory, zeros}
-use Rattle.nest_mean.specs.Nest.{Nest, CanRun}
-use Rattle.nest_mean.specs.CourseParts.{bodies_in}
+use Rattle.nest_mean.specs.Nest.{CanRun}
 use Rattle.nest_mean.specs.Counts.{bare, bodies_in_item, bodies_in_items, bodies_in_arms, bodies_in_regions}
 use Rattle.nest_mean.proofs.Sameness.{same_regions}
 use Rattle.nest_mean.proofs.Walk.{items_from-is, no_items-is, region-is, invocation-is, tested_of-is, if_count}
@@ -150,8 +149,8 @@ first_form_runs program lengths m form lengths_are zeros_are = record {
     one_body : bodies_in_regions (regions_of form.first) ≡ 1
     one_body = items_step (region_of bare) (regions_of form.first) 0 (omega arith) _ refl
         ∙ (let inner : length (region_of bare (loop_of form.first.outer (stmt.Loop (loop_of form.first.inner (stmt.Write form.first.write_line form.first.array form.first.place op.Set form.first.value ∷ [])) ∷ []))).bodies ≡ 1 =
-             region_count _ ∙ items_step (item_of bare) (stmt.Loop (loop_of form.first.inner (stmt.Write form.first.write_line form.first.array form.first.place op.Set form.first.value ∷ [])) ∷ []) 0 (omega arith) _ refl ∙ (let one = loop_count (loop_of form.first.inner (stmt.Write form.first.write_line form.first.array form.first.place op.Set form.first.value ∷ [])) in omega (arith, one)) in
-           omega (arith, inner))
+        region_count _ ∙ items_step (item_of bare) (stmt.Loop (loop_of form.first.inner (stmt.Write form.first.write_line form.first.array form.first.place op.Set form.first.value ∷ [])) ∷ []) 0 (omega arith) _ refl ∙ (let one = loop_count (loop_of form.first.inner (stmt.Write form.first.write_line form.first.array form.first.place op.Set form.first.value ∷ [])) in omega (arith, one)) in
+        omega (arith, inner))
 
 pub first_form_fits : (program : Program) (lengths : List ℕ) → IsFirstForm program → lengths ≡ sizes_of (arrays_of program.decls) → sum lengths ≤ 1048576
 first_form_fits program lengths form lengths_are = let all : sum lengths ≡ sum (form.first.length ∷ []) = ap sum lengths_are ∙ ap (λ ds. sum (sizes_of (arrays_of ds))) form.decls in omega (arith, all, form.kept.few_words)

@@ -1,5 +1,5 @@
 -- How items are carried out, from how their parts are.
-use Rattle.std.proofs.Common.{◌≡◌, ℕ, suc, ◌+◌, ◌*◌, ◌^◌, ◌<◌, ◌≤◌, ℤ, pos, Bool, true, false, if◌then◌else◌, Result, Ok, Err, List, [], ◌∷◌, ◌++◌, map, length, drop, get_or, refl, sym, ap, ◌∙◌, subst, arith, drop-cons, add-one, length-append, append_assoc}
+use Rattle.std.proofs.Common.{◌≡◌, ℕ, suc, ◌+◌, ◌*◌, ◌^◌, ◌<◌, ◌≤◌, ℤ, pos, Bool, true, false, if◌then◌else◌, Result, Ok, Err, List, [], ◌∷◌, ◌++◌, map, length, drop, get_or, refl, sym, ap, ◌∙◌, subst, arith, drop-cons, add-one, length-append}
 use Rattle.std.proofs.lemmas.List.{drop_all, ext_get_or}
 use Rattle.std.proofs.Math.Nat.{mul-le-mul_left}
 use Rattle.nest_syntax.specs.declared.names.Line.{Line}
@@ -16,7 +16,7 @@ use Rattle.nest_syntax.specs.Words.{is_zero, variable}
 use Rattle.nest_syntax.specs.Arrays.{Array, sizes_of}
 use Rattle.nest_syntax.specs.Value.{value, with_scalar}
 use Rattle.nest_syntax.specs.Course.{Setting, Course, Ordinary, Header, Item, Tested, computed, event, iterations, region_turns, in_order, chosen, item_of, item_node, looped_of, region_of}
-use Rattle.nest_syntax.specs.Outcome.{Ending, TrappedAt, place_of_trap, body_at, turn_in, ending_from}
+use Rattle.nest_syntax.specs.Outcome.{Ending, TrappedAt, place_of_trap, turn_in, ending_from}
 use Rattle.nest_syntax.proofs.Equations.{tested_of, tested-is, looped-is, item-declare, item-assign, item-write, item-if, item-loop}
 use Rattle.word_store.specs.Memory.{Memory}
 use Rattle.nest_mean.specs.declared.stops.Stop.{Stop}
@@ -113,8 +113,8 @@ module _ (arrays : List Array) (opening : List ℤ) where
     item_ends stopped passed = record {
       same = λ bodies first stands go.
           reaches_stop stopped (λ (_ : Unit {0}). ends bodies (next.events (first + ahead.passed + length here.bodies) s' go) n' m') _ _
-            (reaches_from (Err stopped) _ _ _ (comes bodies first stands go)
-              (passed.same bodies (first + ahead.passed) (stand_front bodies (first + ahead.passed) here.bodies next.bodies (here_stands bodies first stands)) (λ after. next.events (first + ahead.passed + length here.bodies) after go)));
+          (reaches_from (Err stopped) _ _ _ (comes bodies first stands go)
+          (passed.same bodies (first + ahead.passed) (stand_front bodies (first + ahead.passed) here.bodies next.bodies (here_stands bodies first stands)) (λ after. next.events (first + ahead.passed + length here.bodies) after go)));
       sizes = passed.sizes ∙ ahead.sizes;
       few = omega (arith, passed.few, few_left);
     }
@@ -156,9 +156,9 @@ module _ (arrays : List Array) (opening : List ℤ) where
   item_assigns line name o e changed' result s n m s' is answer = record {
     same = λ bodies first stands go.
         reaches_from result _ _ _
-          (event_is setting Ordinary line (e ∷ []) (scalars_changed arrays name o e s) go (sizes_of arrays) (turn_in arrays bodies) n m.words
-            ∙ ap (λ r. ends bodies (computed line r go) n m) (sym is))
-          (by_result bodies go changed' answer);
+        (event_is setting Ordinary line (e ∷ []) (scalars_changed arrays name o e s) go (sizes_of arrays) (turn_in arrays bodies) n m.words
+        ∙ ap (λ r. ends bodies (computed line r go) n m) (sym is))
+        (by_result bodies go changed' answer);
     sizes = refl;
     few = omega arith;
   }
@@ -229,9 +229,9 @@ module _ (arrays : List Array) (opening : List ℤ) where
     invocation_runs low count is few result s' n' m' ran = passes_as _ _ _ _ _ _ _ _ _ _ (invocation-is l) (record {
       same = λ bodies first stands go.
           reaches_from result _ _ _
-            (event_is setting Header l.line (l.low ∷ l.high ∷ []) (header arrays l s) (λ b. iterations b.1 0 first (λ k. with_scalar s l.name (variable b.0 l.step k)) (go s)) (sizes_of arrays) (turn_in arrays bodies) n m.words
-              ∙ ap (λ r. ends bodies (computed l.line r (λ b. iterations b.1 0 first (λ k. with_scalar s l.name (variable b.0 l.step k)) (go s))) n m) (sym is))
-            (ran.same bodies first stands.0 go);
+          (event_is setting Header l.line (l.low ∷ l.high ∷ []) (header arrays l s) (λ b. iterations b.1 0 first (λ k. with_scalar s l.name (variable b.0 l.step k)) (go s)) (sizes_of arrays) (turn_in arrays bodies) n m.words
+          ∙ ap (λ r. ends bodies (computed l.line r (λ b. iterations b.1 0 first (λ k. with_scalar s l.name (variable b.0 l.step k)) (go s))) n m) (sym is))
+          (ran.same bodies first stands.0 go);
       sizes = ran.sizes;
       few = omega (arith, ran.few);
     })
@@ -251,9 +251,9 @@ module _ (arrays : List Array) (opening : List ℤ) where
     region_runs low count is few result s' n' m' ran = passes_as _ _ _ _ _ _ _ _ _ _ (region-is l) (record {
       same = λ bodies first stands go.
           reaches_from result _ _ _
-            (event_is setting Ordinary l.line (l.low ∷ l.high ∷ []) (header arrays l s) (λ b. region_turns b.1 0 (variable b.0 l.step) l.name ((items_in setting l.body).events first) s go) (sizes_of arrays) (turn_in arrays bodies) n m.words
-              ∙ ap (λ r. ends bodies (computed l.line r (λ b. region_turns b.1 0 (variable b.0 l.step) l.name ((items_in setting l.body).events first) s go)) n m) (sym is))
-            (ran.same bodies first stands go);
+          (event_is setting Ordinary l.line (l.low ∷ l.high ∷ []) (header arrays l s) (λ b. region_turns b.1 0 (variable b.0 l.step) l.name ((items_in setting l.body).events first) s go) (sizes_of arrays) (turn_in arrays bodies) n m.words
+          ∙ ap (λ r. ends bodies (computed l.line r (λ b. region_turns b.1 0 (variable b.0 l.step) l.name ((items_in setting l.body).events first) s go)) n m) (sym is))
+          (ran.same bodies first stands go);
       sizes = ran.sizes;
       few = omega (arith, ran.few, mul-le-mul_left (16777216 * length (items_in setting l.body).bodies) few);
     })
@@ -326,9 +326,9 @@ module _ (arrays : List Array) (opening : List ℤ) where
       counted : ahead.passed + (length (items_in setting here.body).bodies + bodies_in (map (tested_of setting) (drop (i + 1) arms))) ≡ bodies_in (map (tested_of setting) arms)
       counted = ap (λ k. ahead.passed + k)
           (sym (ap (λ rest. bodies_in (map (tested_of setting) rest)) (drop-cons arms i here there)
-            ∙ ap (λ x. length (tested_of setting x).bodies + bodies_in (map (tested_of setting) (drop (suc i) arms))) (sym here_is)
-            ∙ ap (λ t. length t.bodies + bodies_in (map (tested_of setting) (drop (suc i) arms))) (tested_of-is here)
-            ∙ ap (λ k. length (items_in setting here.body).bodies + bodies_in (map (tested_of setting) (drop k arms))) (sym (add-one i))))
+          ∙ ap (λ x. length (tested_of setting x).bodies + bodies_in (map (tested_of setting) (drop (suc i) arms))) (sym here_is)
+          ∙ ap (λ t. length t.bodies + bodies_in (map (tested_of setting) (drop (suc i) arms))) (tested_of-is here)
+          ∙ ap (λ k. length (items_in setting here.body).bodies + bodies_in (map (tested_of setting) (drop k arms))) (sym (add-one i))))
           ∙ ahead.count
 
       -- the event of the test
@@ -343,8 +343,8 @@ module _ (arrays : List Array) (opening : List ℤ) where
           ∙ ap (λ w. ends bodies ((arms_left i other).events (first + ahead.passed) s go) n w) (sym ahead.memory)
           ∙ ap (λ (item : Item). ends bodies (item.events (first + ahead.passed) s go) n m) (left-is other)
           ∙ event_is setting Ordinary here.line (here.test ∷ []) (λ words. value arrays s words here.test)
-              (λ test. if is_zero test then (arms_left (i + 1) other).events (first + ahead.passed + length (items_in setting here.body).bodies) s go else (items_in setting here.body).events (first + ahead.passed) s go)
-              (sizes_of arrays) (turn_in arrays bodies) n m.words
+          (λ test. if is_zero test then (arms_left (i + 1) other).events (first + ahead.passed + length (items_in setting here.body).bodies) s go else (items_in setting here.body).events (first + ahead.passed) s go)
+          (sizes_of arrays) (turn_in arrays bodies) n m.words
           ∙ ap (λ r. ends bodies (computed here.line r (λ test. if is_zero test then (arms_left (i + 1) other).events (first + ahead.passed + length (items_in setting here.body).bodies) s go else (items_in setting here.body).events (first + ahead.passed) s go)) n m) (sym is)
 
       left_stands : (bodies : List (List Stmt)) (first : ℕ) (other : Item) → Stand bodies first (arms_left 0 other).bodies → Stand bodies (first + ahead.passed) ((items_in setting here.body).bodies ++ (arms_left (i + 1) other).bodies)
@@ -452,7 +452,7 @@ module _ (arrays : List Array) (opening : List ℤ) where
     if_goes_on result s'' n'' m'' passed others = passes_as if_item _ _ _ _ _ _ _ _ _ if-is (record {
       same = λ bodies first stands go.
           reaches_from result _ _ _ (passed.same bodies first (items_in setting other) stands go)
-            (others.same bodies (first + bodies_in (map (tested_of setting) arms)) (other_stands bodies first (map (tested_of setting) arms) (items_in setting other) stands) go);
+          (others.same bodies (first + bodies_in (map (tested_of setting) arms)) (other_stands bodies first (map (tested_of setting) arms) (items_in setting other) stands) go);
       sizes = others.sizes ∙ passed.sizes;
       few = omega (arith, passed.few, others.few, bodies_split (map (tested_of setting) arms) (items_in setting other));
     })

@@ -4,7 +4,6 @@ use Rattle.std.specs.Prelude.{◌≡◌, ℕ, suc, ◌+◌, ◌*◌, ◌≤◌, 
 use Rattle.std.specs.List.{list_any}
 use Rattle.nest_syntax.specs.declared.operators.Cause.{Cause}
 use Rattle.nest_syntax.specs.declared.names.Line.{Line}
-use Rattle.nest_syntax.specs.declared.place.Place.{Place}
 use Rattle.nest_syntax.specs.declared.operators.Op.{Op}
 use Rattle.nest_syntax.specs.declared.tree.Decl.{Decl}
 use Rattle.nest_syntax.specs.declared.tree.Expr.{Expr}
@@ -90,7 +89,7 @@ after_arms arms other first scalars go false = other.events (first + bodies_in a
 pub record PassesArms (arrays : List Array) (arms : List Tested) (most : ℕ) (taken : Result Bool Stop) (scalars : List ℤ) (number : ℕ) (memory : Memory) (scalars' : List ℤ) (number' : ℕ) (memory' : Memory) : Type 0 where
   pub same : (bodies : List (List Stmt)) (first : ℕ) (other : Item) → Stand bodies first (chosen arms other).bodies → (go : List ℤ → Course)
       → Reaches taken (λ was. ending_from (sizes_of arrays) (turn_in arrays bodies) (after_arms arms other first scalars' go was) number' memory'.words)
-          (ending_from (sizes_of arrays) (turn_in arrays bodies) ((chosen arms other).events first scalars go) number memory.words)
+      (ending_from (sizes_of arrays) (turn_in arrays bodies) ((chosen arms other).events first scalars go) number memory.words)
   pub sizes : memory'.sizes ≡ memory.sizes
   pub few : number' ≤ number + most * bodies_in arms
 
@@ -110,7 +109,7 @@ items_in setting stmts = in_order (map (item_of setting) stmts)
 pub record IteratesAll (arrays : List Array) (invoked : Loop) (low : ℤ) (count : ℕ) (result : Result (Unit {0}) Stop) (scalars : List ℤ) (number : ℕ) (memory : Memory) (scalars' : List ℤ) (number' : ℕ) (memory' : Memory) : Type 0 where
   pub same : (bodies : List (List Stmt)) (at : ℕ) → body_at bodies at ≡ invoked.body → (go : List ℤ → Course)
       → Reaches result (λ done. ending_from (sizes_of arrays) (turn_in arrays bodies) (go scalars') number' memory'.words)
-          (ending_from (sizes_of arrays) (turn_in arrays bodies) (iterations count 0 at (λ k. with_scalar scalars invoked.name (variable low invoked.step k)) (go scalars)) number memory.words)
+      (ending_from (sizes_of arrays) (turn_in arrays bodies) (iterations count 0 at (λ k. with_scalar scalars invoked.name (variable low invoked.step k)) (go scalars)) number memory.words)
   pub sizes : memory'.sizes ≡ memory.sizes
   pub few : number' ≤ number + count
 
@@ -118,6 +117,6 @@ pub record IteratesAll (arrays : List Array) (invoked : Loop) (low : ℤ) (count
 pub record PassesTurns (arrays : List Array) (items : Item) (region : Loop) (low : ℤ) (count : ℕ) (result : Result (Unit {0}) Stop) (scalars : List ℤ) (number : ℕ) (memory : Memory) (scalars' : List ℤ) (number' : ℕ) (memory' : Memory) : Type 0 where
   pub same : (bodies : List (List Stmt)) (first : ℕ) → Stand bodies first items.bodies → (go : List ℤ → Course)
       → Reaches result (λ done. ending_from (sizes_of arrays) (turn_in arrays bodies) (go scalars') number' memory'.words)
-          (ending_from (sizes_of arrays) (turn_in arrays bodies) (region_turns count 0 (variable low region.step) region.name (items.events first) scalars go) number memory.words)
+      (ending_from (sizes_of arrays) (turn_in arrays bodies) (region_turns count 0 (variable low region.step) region.name (items.events first) scalars go) number memory.words)
   pub sizes : memory'.sizes ≡ memory.sizes
   pub few : number' ≤ number + count * (16777216 * length items.bodies)

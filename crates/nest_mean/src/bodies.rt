@@ -52,15 +52,11 @@ pub(crate) fn run_single(
 ) -> Result<(), TurnTrap>
     requires few { length decls.now < 2 ^ 32 }
     requires sizes { words.old.sizes ≡ sizes_of (arrays_of decls.now) }
-    ensures turn {
-        on_words (sizes_of (arrays_of decls.now)) (turn_of (arrays_of decls.now) (stmt.now ∷ []) scalars.old) words.old.words
-            ≡ ended result words.new.words
-    }
+    ensures turn { on_words (sizes_of (arrays_of decls.now)) (turn_of (arrays_of decls.now) (stmt.now ∷ []) scalars.old) words.old.words
+        ≡ ended result words.new.words }
     ensures sizes { words.new.sizes ≡ words.old.sizes }
     ensures names { length scalars.new ≡ length scalars.old }
-    ensures others {
-        (name : ℕ) → is_among (changed stmt.now) name ≡ false → scalar_at scalars.new name ≡ scalar_at scalars.old name
-    }
+    ensures others { (name : ℕ) → is_among (changed stmt.now) name ≡ false → scalar_at scalars.new name ≡ scalar_at scalars.old name }
 {
     run_stmt(stmt, scalars, words, decls)
 }

@@ -29,13 +29,13 @@ pub(crate) fn run_region(
     requires sizes { words.old.sizes ≡ sizes_of (arrays_of decls.now) }
     requires opening { opening.now.sizes ≡ sizes_of (arrays_of decls.now) }
     requires room { number.old + 281474976710656 * length (region_of (setting_on decls.now opening.now.words) region.now).bodies < 2 ^ 64 }
-    ensures {
-        Passes (arrays_of decls.now) (region_of (setting_on decls.now opening.now.words) region.now) 281474976710656
-            result scalars.old number.old words.old scalars.new number.new words.new
-    }
+    ensures { Passes (arrays_of decls.now) (region_of (setting_on decls.now opening.now.words) region.now) 281474976710656
+        result scalars.old number.old words.old scalars.new number.new words.new }
 {
     match scheduled_header(region, scalars, words, opening, decls) {
-        Ok((low, count)) => run_region_turns(alloc, region, low, count, scalars, number, words, opening, decls),
+        Ok((low, count)) => run_region_turns(
+            alloc, region, low, count, scalars, number, words, opening, decls,
+        ),
         Err(cause) => Err(scheduler_trap(cause, region.line, *number)),
     }
 }
@@ -57,14 +57,20 @@ fn run_region_turns(
     requires reach { (k : ℕ) → k < count → FitsSigned w64 (variable low region.now.step k) }
     requires count { count ≤ 16777216 }
     requires room { number.old + count * (16777216 * length (items_in (setting_on decls.now opening.now.words) region.now.body).bodies) < 2 ^ 64 }
-    ensures {
-        PassesTurns (arrays_of decls.now) (items_in (setting_on decls.now opening.now.words) region.now.body) region.now low count
-            result scalars.old number.old words.old scalars.new number.new words.new
-    }
+    ensures { PassesTurns (arrays_of decls.now) (items_in (setting_on decls.now opening.now.words) region.now.body) region.now low count
+        result scalars.old number.old words.old scalars.new number.new words.new }
 {
     for k in 0..count {
         scalars.set(region.name, value_in_turn(low, region.step, k));
-        run_items(alloc, region.body.as_slice(), scalars, number, words, opening, decls)?;
+        run_items(
+            alloc,
+            region.body.as_slice(),
+            scalars,
+            number,
+            words,
+            opening,
+            decls,
+        )?;
     }
     Ok(())
 }
@@ -83,10 +89,8 @@ fn run_items(
     requires sizes { words.old.sizes ≡ sizes_of (arrays_of decls.now) }
     requires opening { opening.now.sizes ≡ sizes_of (arrays_of decls.now) }
     requires room { number.old + 16777216 * length (items_in (setting_on decls.now opening.now.words) items.now).bodies < 2 ^ 64 }
-    ensures {
-        Passes (arrays_of decls.now) (items_in (setting_on decls.now opening.now.words) items.now) 16777216
-            result scalars.old number.old words.old scalars.new number.new words.new
-    }
+    ensures { Passes (arrays_of decls.now) (items_in (setting_on decls.now opening.now.words) items.now) 16777216
+        result scalars.old number.old words.old scalars.new number.new words.new }
 {
     for item in items {
         run_item(alloc, item, scalars, number, words, opening, decls)?;
@@ -108,10 +112,8 @@ fn run_item(
     requires sizes { words.old.sizes ≡ sizes_of (arrays_of decls.now) }
     requires opening { opening.now.sizes ≡ sizes_of (arrays_of decls.now) }
     requires room { number.old + 16777216 * length (item_of (setting_on decls.now opening.now.words) item.now).bodies < 2 ^ 64 }
-    ensures {
-        Passes (arrays_of decls.now) (item_of (setting_on decls.now opening.now.words) item.now) 16777216
-            result scalars.old number.old words.old scalars.new number.new words.new
-    }
+    ensures { Passes (arrays_of decls.now) (item_of (setting_on decls.now opening.now.words) item.now) 16777216
+        result scalars.old number.old words.old scalars.new number.new words.new }
 {
     match item {
         Stmt::Declare { line, name, value } => {
@@ -129,12 +131,30 @@ fn run_item(
         }
         Stmt::Write { .. } => run_write(item, scalars, number, words, decls),
         Stmt::If { arms, other } => {
-            if run_item_arms(alloc, arms.as_slice(), scalars, number, words, opening, decls)? {
+            if run_item_arms(
+                alloc,
+                arms.as_slice(),
+                scalars,
+                number,
+                words,
+                opening,
+                decls,
+            )? {
                 return Ok(());
             }
-            run_items(alloc, other.as_slice(), scalars, number, words, opening, decls)
+            run_items(
+                alloc,
+                other.as_slice(),
+                scalars,
+                number,
+                words,
+                opening,
+                decls,
+            )
         }
-        Stmt::Loop(invoked) => run_invocation(alloc, invoked, scalars, number, words, opening, decls),
+        Stmt::Loop(invoked) => run_invocation(
+            alloc, invoked, scalars, number, words, opening, decls,
+        ),
     }
 }
 
@@ -153,16 +173,22 @@ fn run_item_arms(
     requires sizes { words.old.sizes ≡ sizes_of (arrays_of decls.now) }
     requires opening { opening.now.sizes ≡ sizes_of (arrays_of decls.now) }
     requires room { number.old + 16777216 * bodies_in (map (tested_of (setting_on decls.now opening.now.words)) arms.now) < 2 ^ 64 }
-    ensures {
-        PassesArms (arrays_of decls.now) (map (tested_of (setting_on decls.now opening.now.words)) arms.now) 16777216
-            result scalars.old number.old words.old scalars.new number.new words.new
-    }
+    ensures { PassesArms (arrays_of decls.now) (map (tested_of (setting_on decls.now opening.now.words)) arms.now) 16777216
+        result scalars.old number.old words.old scalars.new number.new words.new }
 {
     for arm in arms {
         match scheduled(&arm.test, scalars, words, opening, decls) {
             Ok(test) => {
                 if !is_zero(test) {
-                    run_items(alloc, arm.body.as_slice(), scalars, number, words, opening, decls)?;
+                    run_items(
+                        alloc,
+                        arm.body.as_slice(),
+                        scalars,
+                        number,
+                        words,
+                        opening,
+                        decls,
+                    )?;
                     return Ok(true);
                 }
             }
@@ -185,13 +211,13 @@ fn run_invocation(
     requires sizes { words.old.sizes ≡ sizes_of (arrays_of decls.now) }
     requires opening { opening.now.sizes ≡ sizes_of (arrays_of decls.now) }
     requires room { number.old + 16777216 < 2 ^ 64 }
-    ensures {
-        Passes (arrays_of decls.now) (looped_of (setting_on decls.now opening.now.words) invoked.now).invocation 16777216
-            result scalars.old number.old words.old scalars.new number.new words.new
-    }
+    ensures { Passes (arrays_of decls.now) (looped_of (setting_on decls.now opening.now.words) invoked.now).invocation 16777216
+        result scalars.old number.old words.old scalars.new number.new words.new }
 {
     match scheduled_header(invoked, scalars, words, opening, decls) {
-        Ok((low, count)) => run_iterations(alloc, invoked, low, count, scalars, number, words, decls),
+        Ok((low, count)) => run_iterations(
+            alloc, invoked, low, count, scalars, number, words, decls,
+        ),
         Err(cause) => Err(scheduler_trap(cause, invoked.line, *number)),
     }
 }

@@ -24,10 +24,8 @@ pub(crate) fn scheduled(
     requires few { length decls.now < 2 ^ 32 }
     requires sizes { words.now.sizes ≡ sizes_of (arrays_of decls.now) }
     requires opening { opening.now.sizes ≡ sizes_of (arrays_of decls.now) }
-    ensures {
-        result ≡ value (arrays_of decls.now) scalars.now
-            (event_words (arrays_of decls.now) (expr.now ∷ []) words.now.words opening.now.words) expr.now
-    }
+    ensures { result ≡ value (arrays_of decls.now) scalars.now
+        (event_words (arrays_of decls.now) (expr.now ∷ []) words.now.words opening.now.words) expr.now }
 {
     if names_written(expr, decls) {
         eval(expr, scalars, words, decls)
@@ -47,10 +45,8 @@ pub(crate) fn scheduled_header(
     requires few { length decls.now < 2 ^ 32 }
     requires sizes { words.now.sizes ≡ sizes_of (arrays_of decls.now) }
     requires opening { opening.now.sizes ≡ sizes_of (arrays_of decls.now) }
-    ensures value {
-        result ≡ header (arrays_of decls.now) headed.now scalars.now
-            (event_words (arrays_of decls.now) (headed.now.low ∷ headed.now.high ∷ []) words.now.words opening.now.words)
-    }
+    ensures value { result ≡ header (arrays_of decls.now) headed.now scalars.now
+        (event_words (arrays_of decls.now) (headed.now.low ∷ headed.now.high ∷ []) words.now.words opening.now.words) }
     ensures reach { IfOk result (λ b. (k : ℕ) → k < b.1 → FitsSigned w64 (variable b.0 headed.now.step k)) }
     ensures count { IfOk result (λ b. b.1 ≤ 16777216) }
 {
@@ -100,10 +96,8 @@ pub(crate) fn change_scheduled(
     requires few { length decls.now < 2 ^ 32 }
     requires sizes { words.now.sizes ≡ sizes_of (arrays_of decls.now) }
     requires opening { opening.now.sizes ≡ sizes_of (arrays_of decls.now) }
-    ensures {
-        with_result result scalars.new ≡ scalars_changed (arrays_of decls.now) name op value.now scalars.old
-            (event_words (arrays_of decls.now) (value.now ∷ []) words.now.words opening.now.words)
-    }
+    ensures { with_result result scalars.new ≡ scalars_changed (arrays_of decls.now) name op value.now scalars.old
+        (event_words (arrays_of decls.now) (value.now ∷ []) words.now.words opening.now.words) }
 {
     let right = scheduled(value, scalars, words, opening, decls)?;
     let new = assign(op, scalars.get(name), right)?;

@@ -28,9 +28,7 @@ pub(crate) fn run_iterations(
     requires sizes { words.old.sizes ≡ sizes_of (arrays_of decls.now) }
     requires reach { (k : ℕ) → k < count → FitsSigned w64 (variable low invoked.now.step k) }
     requires room { number.old + count < 2 ^ 64 }
-    ensures {
-        IteratesAll (arrays_of decls.now) invoked.now low count result scalars.old number.old words.old scalars.new number.new words.new
-    }
+    ensures { IteratesAll (arrays_of decls.now) invoked.now low count result scalars.old number.old words.old scalars.new number.new words.new }
 {
     let kept = saved_scalars(alloc, invoked, scalars)?;
     for k in 0..count {
@@ -51,9 +49,7 @@ fn run_iteration(
     requires few { length decls.now < 2 ^ 32 }
     requires sizes { words.old.sizes ≡ sizes_of (arrays_of decls.now) }
     requires room { number.old + 1 < 2 ^ 64 }
-    ensures {
-        Iterates (arrays_of decls.now) body.now (names_changed body.now) result scalars.old number.old words.old scalars.new number.new words.new
-    }
+    ensures { Iterates (arrays_of decls.now) body.now (names_changed body.now) result scalars.old number.old words.old scalars.new number.new words.new }
 {
     let ended = run_body(body, scalars, words, decls);
     count_iteration(ended, number)
@@ -70,9 +66,7 @@ pub(crate) fn run_write(
     requires few { length decls.now < 2 ^ 32 }
     requires sizes { words.old.sizes ≡ sizes_of (arrays_of decls.now) }
     requires room { number.old + 1 < 2 ^ 64 }
-    ensures {
-        Iterates (arrays_of decls.now) (stmt.now ∷ []) (changed stmt.now) result scalars.old number.old words.old scalars.new number.new words.new
-    }
+    ensures { Iterates (arrays_of decls.now) (stmt.now ∷ []) (changed stmt.now) result scalars.old number.old words.old scalars.new number.new words.new }
 {
     let ended = run_single(stmt, scalars, words, decls);
     count_iteration(ended, number)

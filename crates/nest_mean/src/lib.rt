@@ -27,3 +27,6 @@ pub use nest_syntax::Place;
 pub use outcomes::Outcome;
 pub use plain::run_plain;
 pub use values::Scalars;
+
+#[cfg(test)]
+mod tests;

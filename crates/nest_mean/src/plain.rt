@@ -51,13 +51,9 @@ fn run_regions(
     requires few { length decls.now < 2 ^ 32 }
     requires sizes { words.old.sizes ≡ sizes_of (arrays_of decls.now) }
     requires opening { opening.now.sizes ≡ sizes_of (arrays_of decls.now) }
-    requires room {
-        number.old + 281474976710656 * length (in_order (map (region_of (setting_on decls.now opening.now.words)) regions.now)).bodies < 2 ^ 64
-    }
-    ensures {
-        Passes (arrays_of decls.now) (in_order (map (region_of (setting_on decls.now opening.now.words)) regions.now)) 281474976710656
-            result scalars.old number.old words.old scalars.new number.new words.new
-    }
+    requires room { number.old + 281474976710656 * length (in_order (map (region_of (setting_on decls.now opening.now.words)) regions.now)).bodies < 2 ^ 64 }
+    ensures { Passes (arrays_of decls.now) (in_order (map (region_of (setting_on decls.now opening.now.words)) regions.now)) 281474976710656
+        result scalars.old number.old words.old scalars.new number.new words.new }
 {
     for region in regions {
         run_region(alloc, region, scalars, number, words, opening, decls)?;

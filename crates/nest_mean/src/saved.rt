@@ -35,11 +35,7 @@ fn save(name: u32, scalars: &Scalars, kept: &mut Vec<(u32, i64)>) -> Result<(), 
 }
 
 #[cycle(save)]
-fn save_block(
-    stmts: &[Stmt],
-    scalars: &Scalars,
-    kept: &mut Vec<(u32, i64)>,
-) -> Result<(), NoMemory>
+fn save_block(stmts: &[Stmt], scalars: &Scalars, kept: &mut Vec<(u32, i64)>) -> Result<(), NoMemory>
     ensures { OnOk result (kept.new.items ≡ kept.old.items ++ saved scalars.now (names_changed stmts.now)) }
 {
     for stmt in stmts {
@@ -49,11 +45,7 @@ fn save_block(
 }
 
 #[cycle(save)]
-fn save_stmt(
-    stmt: &Stmt,
-    scalars: &Scalars,
-    kept: &mut Vec<(u32, i64)>,
-) -> Result<(), NoMemory>
+fn save_stmt(stmt: &Stmt, scalars: &Scalars, kept: &mut Vec<(u32, i64)>) -> Result<(), NoMemory>
     ensures { OnOk result (kept.new.items ≡ kept.old.items ++ saved scalars.now (changed stmt.now)) }
 {
     match stmt {

@@ -1,10 +1,11 @@
 -- What the machine leaves of a quotient and of a shifted word is the word that `wrap` means.
-use Rattle.std.proofs.Common.{◌≡◌, ℕ, zero, suc, ◌-◌, ◌*◌, ◌/◌, ◌%◌, ◌^◌, ◌<◌, ◌≤◌, ℤ, pos, negsuc, ◌*ℤ◌, neg_ℤ, refl, sym, ap, ◌∙◌, arith, w64, to_z, of_z, FitsSigned, int_div, unsigned_abs, lit<}
+use Rattle.std.proofs.Common.{◌≡◌, ℕ, zero, suc, ◌-◌, ◌*◌, ◌/◌, ◌%◌, ◌^◌, ◌<◌, ◌≤◌, ℤ, pos, negsuc, ◌+ℤ◌, ◌-ℤ◌, ◌*ℤ◌, neg_ℤ, false, refl, sym, ap, ◌∙◌, arith, w64, to_z, of_z, FitsSigned, int_div, int_rem, unsigned_abs, lit<}
 use Rattle.std.proofs.Math.Nat.{mod-eq_of_lt, mod-lt, div-le_self}
+use Rattle.std.proofs.Math.IntN.{*ℤ_comm}
 use Rattle.std.proofs.Math.Pow.{pow-lt}
-use Rattle.std.proofs.lemmas.Int.{to_z-of_z, wrapping_mul-bits, int_wrap-mul_right}
+use Rattle.std.proofs.lemmas.Int.{ints, quot-rem, to_z-of_z, wrapping_mul-bits, int_wrap-mul_right}
 use Rattle.std.specs.Int.{int_wrap, int_shl}
-use Rattle.nest_syntax.specs.Words.{shift_count}
+use Rattle.nest_syntax.specs.Words.{is_zero, shift_count}
 
 -- a number below 2^64 is read as the bits of the word that it wraps to
 pub int_wrap-pos : (n : ℕ) → n < 2 ^ 64 → int_wrap w64 (pos n) ≡ to_z w64 n
@@ -63,3 +64,16 @@ shift_count-lt (negsuc b) = omega arith
 pub int_wrap-int_shl : (a b : ℤ) → FitsSigned w64 a → int_shl w64 a (shift_count b % 64) ≡ int_wrap w64 (a *ℤ pos (2 ^ shift_count b))
 int_wrap-int_shl a b f =
     ap (int_shl w64 a) (mod-eq_of_lt (shift_count-lt b)) ∙ int_wrap-times a (2 ^ shift_count b) f (pow-lt (shift_count-lt b))
+
+taken_away : (a x r : ℤ) → x +ℤ r ≡ a → a -ℤ x ≡ r
+taken_away a x r e = omega (arith, ints)
+
+-- what a quotient leaves is the machine's remainder
+pub left-int_div : (a b : ℤ) → a -ℤ b *ℤ int_div a b ≡ int_rem a b
+left-int_div a b = ap (λ x. a -ℤ x) (*ℤ_comm b (int_div a b)) ∙ taken_away a (int_div a b *ℤ b) (int_rem a b) (quot-rem a b)
+
+-- bits that aren't 0 are a word that isn't 0
+pub is_zero-bits : (b : ℤ) → (of_z w64 b ≡ 0 → ⊥) → FitsSigned w64 b → is_zero b ≡ false
+is_zero-bits (pos zero) h f = absurd (h refl)
+is_zero-bits (pos (suc b)) h f = grind arith
+is_zero-bits (negsuc b) h f = refl

@@ -5,6 +5,7 @@ use nest_syntax::{Bin, Cause, Op, Un};
 
 /// The result of a binary operation, which wraps. `Divide` comes exactly where `/` or `%` has a divisor of 0.
 /// `&&` and `||` are no operation of two words: what they need is for the caller to evaluate.
+#[tactic(auto, using(std::proofs::lemmas::Int::wraps))]
 pub fn apply(op: Bin, left: i64, right: i64) -> Result<i64, Cause>
     requires not_both { op ≢ Bin.Both }
     requires not_either { op ≢ Bin.Either }
@@ -32,6 +33,7 @@ pub fn apply(op: Bin, left: i64, right: i64) -> Result<i64, Cause>
 }
 
 /// The result of a unary operation. `-` wraps, `!` gives 0 or 1.
+#[tactic(auto, using(std::proofs::lemmas::Int::wraps))]
 pub fn apply_un(op: Un, value: i64) -> i64
     ensures { result ≡ word.apply_un op value }
 {

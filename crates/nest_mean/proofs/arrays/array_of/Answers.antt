@@ -1,5 +1,5 @@
-use Rattle.std.proofs.Common.{rules, arith, subst, sym, ne_eqb}
-use Rattle.nest_mean.proofs.Scan.{IsScanned, scan_begins, scan_passes_scalar, scan_passes_array, scan_meets, scan_ends}
+use Rattle.std.proofs.Common.{arith, ne_eqb}
+use Rattle.nest_mean.proofs.Scan.{scan_begins, scan_passes_scalar, scan_passes_array, scan_meets, scan_ends}
 use Rattle.nest_mean.proofs.arrays.array_of.Goals as goal
 use Rattle.nest_mean.proofs.arrays.array_of.Goals.{in-Array+else-declared-name, in-Scalar}
 

@@ -1,13 +1,12 @@
-use Rattle.std.proofs.Common.{rules, ◌≡◌, ℕ, ◌<◌, ◌≤◌, ℤ, Bool, true, false, Result, Ok, Err, arith, to_z, of_z, w64, sym, ap, ◌∙◌, refl}
+use Rattle.std.proofs.Common.{rules, ◌≡◌, true, false, to_z, of_z, w64, sym, ap, ◌∙◌}
 use Rattle.std.proofs.lemmas.Int.{to_z-of_z}
 use Rattle.std.proofs.lemmas.Result.{err_from_is_err_and}
 use Rattle.nest_syntax.specs.declared.tree.Stmt.TheFolds.{the_lemmas}
 use Rattle.nest_syntax.specs.Words.{is_zero, variable}
-use Rattle.nest_syntax.specs.Arrays.{arrays_of}
 use Rattle.nest_syntax.specs.Value.{with_scalar}
 use Rattle.word_store.specs.Memory.{Memory}
 use Rattle.nest_mean.proofs.Names.{changed_in_loop-is}
-use Rattle.nest_mean.proofs.Parts.{all_left, block, block_from, block_runs, block_stops, block_ends, turns_begin, turn_runs, turn_stops, turns_end, runs_declare}
+use Rattle.nest_mean.proofs.Parts.{all_left, block_runs, block_stops, block_ends, turns_begin, turn_runs, turn_stops, turns_end, runs_declare}
 use Rattle.nest_mean.proofs.Statements.{all_arms_left, arm_passes, arm_stops, arm_runs, arm_traps, arms_end, loop_stops_low, loop_stops_high, loop_traps, loop_runs, write_stops_place, write_stops_value, write_runs, if_stops, if_takes, if_other}
 use Rattle.nest_mean.proofs.bodies.+turn.Goals as goal
 
@@ -61,7 +60,7 @@ run_arms-returns-in_err-run_block t c =
     let test : to_z w64 (of_z w64 c.in_ok-test.test) ≡ c.in_ok-test.test = to_z-of_z w64 c.in_ok-test.test (search rules) in
     let not_zero : is_zero c.in_ok-test.test ≡ false = ap is_zero (sym test) ∙ sym c.is_zero.ensures ∙ c.if-not-is_zero.true in
     rw (p.1, p.2)
-      (arm_traps _ _ _ c.loop-arm-test.true c.arm-item.result c.arm-item.is c.in_ok-test.test _ _ _ _ c.loop-arm.invariant c.in_ok-test.ensures not_zero _ _ _ (rw c.as_slice.ensures at c.in_err-run_block.ensures))
+    (arm_traps _ _ _ c.loop-arm-test.true c.arm-item.result c.arm-item.is c.in_ok-test.test _ _ _ _ c.loop-arm.invariant c.in_ok-test.ensures not_zero _ _ _ (rw c.as_slice.ensures at c.in_err-run_block.ensures))
 
 pub run_arms-returns-then-not-is_zero : goal.run_arms-returns-then-not-is_zero
 run_arms-returns-then-not-is_zero t c =
@@ -116,12 +115,12 @@ run_stmt-returns-in_ok-right-in-Write t c =
     let at : to_z w64 (of_z w64 c.in_ok-at-in-Write.at) ≡ c.in_ok-at-in-Write.at = to_z-of_z w64 c.in_ok-at-in-Write.at (search rules) in
     let right : to_z w64 (of_z w64 c.in_ok-right-in-Write.right) ≡ c.in_ok-right-in-Write.right = to_z-of_z w64 c.in_ok-right-in-Write.right (search rules) in
     rw c.in-Write.is
-      (write_runs _ _ _ _ _ _ _ _ c.in_ok-at-in-Write.at c.in_ok-at-in-Write.ensures c.in_ok-right-in-Write.right c.in_ok-right-in-Write.ensures _ _ (simp (at, right) at c.write_word.ensures.written) c.write_word.ensures.sizes)
+    (write_runs _ _ _ _ _ _ _ _ c.in_ok-at-in-Write.at c.in_ok-at-in-Write.ensures c.in_ok-right-in-Write.right c.in_ok-right-in-Write.ensures _ _ (simp (at, right) at c.write_word.ensures.written) c.write_word.ensures.sizes)
 
 pub run_stmt-returns-else-branch : goal.run_stmt-returns-else-branch
 run_stmt-returns-else-branch t c =
     rw c.in-If.is
-      (if_other _ _ _ _ _ _ _ _ _ _ (rw (c.as_slice.ensures, c.if-branch.false) at c.in_ok-run_arms-in-If.ensures) (rw c.as_slice-in-If.ensures at c.run_block.ensures))
+    (if_other _ _ _ _ _ _ _ _ _ _ (rw (c.as_slice.ensures, c.if-branch.false) at c.in_ok-run_arms-in-If.ensures) (rw c.as_slice-in-If.ensures at c.run_block.ensures))
 
 pub run_turns-returns-in_err-run_block : goal.run_turns-returns-in_err-run_block
 run_turns-returns-in_err-run_block t c =
@@ -129,18 +128,18 @@ run_turns-returns-in_err-run_block t c =
     let low : to_z w64 (of_z w64 c.args.low) ≡ c.args.low = to_z-of_z w64 c.args.low c.ranges.low in
     let value : to_z w64 (of_z w64 c.value_in_turn.result) ≡ c.value_in_turn.result = to_z-of_z w64 c.value_in_turn.result (search rules) in
     let start : c.set.new.self ≡ with_scalar c.loop-k.scalars c.args.inner.now.name (variable c.args.low c.args.inner.now.step c.loop-k.k) =
-      c.set.ensures ∙ ap (with_scalar c.loop-k.scalars c.args.inner.now.name) (value ∙ simp low at c.value_in_turn.ensures) in
+    c.set.ensures ∙ ap (with_scalar c.loop-k.scalars c.args.inner.now.name) (value ∙ simp low at c.value_in_turn.ensures) in
     rw (p.1, p.2, changed_in_loop-is c.args.inner.now)
-      (turn_stops _ _ _ _ _ _ _ _ _ _ _ c.loop-k.k c.loop-k-test.true (simp low at c.loop-k.invariant) _ (rw (c.as_slice.ensures, start) at c.in_err-run_block.ensures))
+    (turn_stops _ _ _ _ _ _ _ _ _ _ _ c.loop-k.k c.loop-k-test.true (simp low at c.loop-k.invariant) _ (rw (c.as_slice.ensures, start) at c.in_err-run_block.ensures))
 
 pub run_turns-loop-k-preserved : goal.run_turns-loop-k-preserved
 run_turns-loop-k-preserved t c =
     let low : to_z w64 (of_z w64 c.args.low) ≡ c.args.low = to_z-of_z w64 c.args.low c.ranges.low in
     let value : to_z w64 (of_z w64 c.value_in_turn.result) ≡ c.value_in_turn.result = to_z-of_z w64 c.value_in_turn.result (search rules) in
     let start : c.set.new.self ≡ with_scalar c.loop-k.scalars c.args.inner.now.name (variable c.args.low c.args.inner.now.step c.loop-k.k) =
-      c.set.ensures ∙ ap (with_scalar c.loop-k.scalars c.args.inner.now.name) (value ∙ simp low at c.value_in_turn.ensures) in
+    c.set.ensures ∙ ap (with_scalar c.loop-k.scalars c.args.inner.now.name) (value ∙ simp low at c.value_in_turn.ensures) in
     simp low
-      (turn_runs _ _ _ _ _ _ _ _ _ _ _ c.loop-k.k c.loop-k-test.true (simp low at c.loop-k.invariant) (rw (c.as_slice.ensures, start) at c.in_ok-run_block.ensures))
+    (turn_runs _ _ _ _ _ _ _ _ _ _ _ c.loop-k.k c.loop-k-test.true (simp low at c.loop-k.invariant) (rw (c.as_slice.ensures, start) at c.in_ok-run_block.ensures))
 
 pub run_turns-returns : goal.run_turns-returns
 run_turns-returns t c =

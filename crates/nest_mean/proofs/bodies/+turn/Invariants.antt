@@ -15,4 +15,4 @@ invariant-run_block-loop-stmt l = IsLeft (arrays_of l.decls) (block (arrays_of l
 abbrev pub invariant-run_turns-loop-k : goal.invariant-run_turns-loop-k
 invariant-run_turns-loop-k l =
     IsLeft (arrays_of l.decls) (all_turns (arrays_of l.decls) l.count (variable l.low l.inner.step) l.inner.name l.inner.body) (turns_from (arrays_of l.decls) l.count (variable l.low l.inner.step) l.inner.name l.inner.body l.k)
-      (l.inner.name ∷ names_changed l.inner.body) l.fn.scalars l.fn.words l.scalars l.words
+    (l.inner.name ∷ names_changed l.inner.body) l.fn.scalars l.fn.words l.scalars l.words

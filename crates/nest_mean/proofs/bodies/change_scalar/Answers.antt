@@ -1,12 +1,8 @@
-use Rattle.std.proofs.Common.{rules, ◌≡◌, Result, Ok, Err, ℤ, to_z, of_z, w64, SFits, sym, ◌∙◌}
+use Rattle.std.proofs.Common.{rules, ◌≡◌, Ok, Err, to_z, of_z, w64}
 use Rattle.std.proofs.lemmas.Int.{to_z-of_z}
 use Rattle.std.proofs.lemmas.Result.{err_from_is_err_and}
-use Rattle.nest_syntax.specs.declared.operators.Cause.{Cause}
 use Rattle.nest_syntax.specs.Words.{operation_of, assigned}
-use Rattle.nest_syntax.specs.Arrays.{arrays_of}
-use Rattle.nest_syntax.specs.Value.{value, scalar_at}
-use Rattle.nest_mean.specs.declared.bodies.TurnTrap.{TurnTrap}
-use Rattle.nest_mean.specs.TurnParts.{at_line}
+use Rattle.nest_syntax.specs.Value.{scalar_at}
 use Rattle.nest_mean.proofs.Parts.{scalar_stops, scalar_traps, scalar_changes}
 use Rattle.nest_mean.proofs.bodies.change_scalar.Goals as goal
 

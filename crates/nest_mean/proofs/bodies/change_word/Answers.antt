@@ -1,8 +1,8 @@
-use Rattle.std.proofs.Common.{rules, ◌≡◌, Ok, Some, ℤ, to_z, of_z, w64, sym, ◌∙◌}
+use Rattle.std.proofs.Common.{rules, ◌≡◌, Ok, Some, to_z, of_z, w64, sym, ◌∙◌}
 use Rattle.std.proofs.lemmas.Int.{to_z-of_z}
 use Rattle.nest_syntax.specs.Words.{operation_of, assigned}
 use Rattle.nest_syntax.specs.Arrays.{arrays_of, array_of}
-use Rattle.word_store.specs.Memory.{loaded, stored}
+use Rattle.word_store.specs.Memory.{loaded}
 use Rattle.nest_mean.proofs.Parts.{word_changes}
 use Rattle.nest_mean.proofs.bodies.change_word.Goals as goal
 

@@ -1,4 +1,3 @@
-use Rattle.nest_syntax.specs.Turn.{Finished}
 use Rattle.nest_mean.proofs.Parts.{runs_alone}
 use Rattle.nest_mean.proofs.bodies.run_single.Goals as goal
 

@@ -1,6 +1,6 @@
-use Rattle.std.proofs.Common.{rules, ◌≡◌, ◌+◌, ◌<◌, arith, sym, ap, ◌∙◌}
+use Rattle.std.proofs.Common.{◌≡◌, ◌+◌, ◌<◌, arith, ap, ◌∙◌}
 use Rattle.nest_mean.specs.Counts.{bodies_in_item, bodies_in_items, bodies_in_arms}
-use Rattle.nest_mean.proofs.Tally.{arms_step, arms_over, declare_count, assign_count, write_count, loop_count, if_count_bare, one_less, less_behind}
+use Rattle.nest_mean.proofs.Tally.{arms_step, declare_count, assign_count, write_count, loop_count, if_count_bare, one_less, less_behind}
 use Rattle.nest_mean.proofs.counts.+count.Goals as goal
 
 pub left_by_arms-returns-in_err-left : goal.left_by_arms-returns-in_err-left
@@ -33,4 +33,4 @@ left_by_item-returns-in-Loop t c = one_less _ _ _ (ap bodies_in_item c.in-Loop.i
 pub left_by_item-returns-in_ok-behind-in-If : goal.left_by_item-returns-in_ok-behind-in-If
 left_by_item-returns-in_ok-behind-in-If t c =
     less_behind _ _ c.in_ok-behind-in-If.behind (bodies_in_arms c.in-If.arms) (bodies_in_items c.in-If.other) _ (ap bodies_in_item c.in-If.is ∙ if_count_bare c.in-If.arms c.in-If.other)
-      (rw c.as_slice.ensures at c.in_ok-behind-in-If.ensures) (rw c.as_slice-in-If.ensures at c.left_by_items.ensures)
+    (rw c.as_slice.ensures at c.in_ok-behind-in-If.ensures) (rw c.as_slice-in-If.ensures at c.left_by_items.ensures)

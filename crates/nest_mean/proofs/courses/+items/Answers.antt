@@ -1,4 +1,4 @@
-use Rattle.std.proofs.Common.{rules, ◌≡◌, ℕ, ◌<◌, ◌≤◌, ℤ, Bool, true, false, arith, to_z, of_z, w64, sym, ap, ◌∙◌}
+use Rattle.std.proofs.Common.{rules, ◌≡◌, true, false, to_z, of_z, w64, sym, ap, ◌∙◌}
 use Rattle.std.proofs.lemmas.Int.{to_z-of_z}
 use Rattle.std.proofs.lemmas.Result.{err_from_is_err_and}
 use Rattle.nest_syntax.specs.declared.tree.Stmt.TheFolds.{the_lemmas}
@@ -14,17 +14,37 @@ pub run_items-loop-item-init : goal.run_items-loop-item-init
 run_items-loop-item-init t c = ahead_begins _ _ _ _ _ _ _
 
 pub run_items-run_item-requires : goal.run_items-run_item-requires
-run_items-run_item-requires t c =
-    (search (rules, the_lemmas), (c.requires.few, (c.loop-item.invariant.sizes ∙ c.requires.sizes, (c.requires.opening,
-      listed_room (arrays_of c.args.decls.now) c.args.opening.now.words (item_of (setting_on c.args.decls.now c.args.opening.now.words)) c.args.items.now 16777216 c.loop-item.item-index c.loop-item-test.true c.item-item.result c.item-item.is _ _ _ _ _ _ c.loop-item.invariant c.requires.room))))
+run_items-run_item-requires t c = (
+  search (rules, the_lemmas),
+  (
+    c.requires.few,
+    (
+      c.loop-item.invariant.sizes ∙ c.requires.sizes,
+      (
+        c.requires.opening,
+        listed_room (arrays_of c.args.decls.now) c.args.opening.now.words (item_of (setting_on c.args.decls.now c.args.opening.now.words)) c.args.items.now 16777216 c.loop-item.item-index c.loop-item-test.true c.item-item.result c.item-item.is _ _ _ _ _ _ c.loop-item.invariant c.requires.room,
+      ),
+    ),
+  ),
+)
 
 pub run_item-run_write-requires-clause-room : goal.run_item-run_write-requires-clause-room
 run_item-run_write-requires-clause-room t c = write_room _ _ _ _ _ _ _ _ (rw c.in-Write.is at c.requires.room)
 
 pub run_item-run_item_arms-requires : goal.run_item-run_item_arms-requires
-run_item-run_item_arms-requires t c =
-    (search (rules, the_lemmas), (c.requires.few, (c.requires.sizes, (c.requires.opening,
-      rw c.as_slice.ensures (if_arms_room _ _ c.in-If.arms c.in-If.other c.args.scalars.now c.args.number.now c.args.words.now c.args.scalars.now c.args.number.now c.args.words.now (rw c.in-If.is at c.requires.room))))))
+run_item-run_item_arms-requires t c = (
+  search (rules, the_lemmas),
+  (
+    c.requires.few,
+    (
+      c.requires.sizes,
+      (
+        c.requires.opening,
+        rw c.as_slice.ensures (if_arms_room _ _ c.in-If.arms c.in-If.other c.args.scalars.now c.args.number.now c.args.words.now c.args.scalars.now c.args.number.now c.args.words.now (rw c.in-If.is at c.requires.room)),
+      ),
+    ),
+  ),
+)
 
 pub run_item-returns-in_err-run_item_arms-in-If : goal.run_item-returns-in_err-run_item_arms-in-If
 run_item-returns-in_err-run_item_arms-in-If t c =
@@ -35,9 +55,19 @@ pub run_item-returns-then-branch : goal.run_item-returns-then-branch
 run_item-returns-then-branch t c = rw c.in-If.is (if_is_taken _ _ _ _ _ _ _ _ _ _ (rw (c.as_slice.ensures, c.if-branch.true) at c.in_ok-run_item_arms-in-If.ensures))
 
 pub run_item-run_items-requires : goal.run_item-run_items-requires
-run_item-run_items-requires t c =
-    (search (rules, the_lemmas), (c.requires.few, (c.run_item_arms.ensures.sizes ∙ c.requires.sizes, (c.requires.opening,
-      rw c.as_slice-in-If.ensures (if_other_room _ _ _ _ _ _ _ _ _ _ (rw c.in-If.is at c.requires.room) _ (rw c.as_slice.ensures at c.run_item_arms.ensures))))))
+run_item-run_items-requires t c = (
+  search (rules, the_lemmas),
+  (
+    c.requires.few,
+    (
+      c.run_item_arms.ensures.sizes ∙ c.requires.sizes,
+      (
+        c.requires.opening,
+        rw c.as_slice-in-If.ensures (if_other_room _ _ _ _ _ _ _ _ _ _ (rw c.in-If.is at c.requires.room) _ (rw c.as_slice.ensures at c.run_item_arms.ensures)),
+      ),
+    ),
+  ),
+)
 
 pub run_item-run_invocation-requires-clause-room : goal.run_item-run_invocation-requires-clause-room
 run_item-run_invocation-requires-clause-room t c = invocation_room _ _ _ _ (rw c.in-Loop.is at c.requires.room)
@@ -54,7 +84,7 @@ run_item-returns-in-Write t c = rw c.in-Write.is (item_write _ _ _ _ _ _ _ _ _ _
 pub run_item-returns-else-branch : goal.run_item-returns-else-branch
 run_item-returns-else-branch t c =
     rw c.in-If.is
-      (if_goes_on _ _ _ _ _ _ _ _ _ _ _ _ _ _ (rw (c.as_slice.ensures, c.if-branch.false) at c.in_ok-run_item_arms-in-If.ensures) (rw c.as_slice-in-If.ensures at c.run_items.ensures))
+    (if_goes_on _ _ _ _ _ _ _ _ _ _ _ _ _ _ (rw (c.as_slice.ensures, c.if-branch.false) at c.in_ok-run_item_arms-in-If.ensures) (rw c.as_slice-in-If.ensures at c.run_items.ensures))
 
 pub run_item-returns-in-Loop : goal.run_item-returns-in-Loop
 run_item-returns-in-Loop t c = rw c.in-Loop.is (item_invokes _ _ _ _ _ _ _ _ _ _ c.run_invocation.ensures)
@@ -74,9 +104,19 @@ pub run_item_arms-loop-arm-init : goal.run_item_arms-loop-arm-init
 run_item_arms-loop-arm-init t c = arms_begin _ _ _ _ _ _
 
 pub run_item_arms-run_items-requires : goal.run_item_arms-run_items-requires
-run_item_arms-run_items-requires t c =
-    (search (rules, the_lemmas), (c.requires.few, (ap (λ (m : Memory). m.sizes) c.loop-arm.invariant.memory ∙ c.requires.sizes, (c.requires.opening,
-      rw c.as_slice.ensures (arm_room _ _ _ _ _ _ _ c.loop-arm-test.true c.arm-item.result c.arm-item.is _ _ _ c.loop-arm.invariant c.requires.room)))))
+run_item_arms-run_items-requires t c = (
+  search (rules, the_lemmas),
+  (
+    c.requires.few,
+    (
+      ap (λ (m : Memory). m.sizes) c.loop-arm.invariant.memory ∙ c.requires.sizes,
+      (
+        c.requires.opening,
+        rw c.as_slice.ensures (arm_room _ _ _ _ _ _ _ c.loop-arm-test.true c.arm-item.result c.arm-item.is _ _ _ c.loop-arm.invariant c.requires.room),
+      ),
+    ),
+  ),
+)
 
 pub run_item_arms-returns-in_err-run_items-in-Ok : goal.run_item_arms-returns-in_err-run_items-in-Ok
 run_item_arms-returns-in_err-run_items-in-Ok t c =

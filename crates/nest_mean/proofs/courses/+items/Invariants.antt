@@ -11,4 +11,4 @@ invariant-run_item_arms-loop-arm l = AreAhead (arrays_of l.decls) l.opening.word
 abbrev pub invariant-run_items-loop-item : goal.invariant-run_items-loop-item
 invariant-run_items-loop-item l =
     IsAhead (arrays_of l.decls) l.opening.words (items_in (setting_on l.decls l.opening.words) l.items) (in_order (map (item_of (setting_on l.decls l.opening.words)) (drop l.item-index l.items))) 16777216
-      l.fn.scalars l.fn.number l.fn.words l.scalars l.number l.words
+    l.fn.scalars l.fn.number l.fn.words l.scalars l.number l.words

@@ -1,4 +1,4 @@
-use Rattle.std.proofs.Common.{rules, ◌≡◌, to_z, of_z, w64, sym, ap, ◌∙◌}
+use Rattle.std.proofs.Common.{rules, ◌≡◌, to_z, of_z, w64, sym, ◌∙◌}
 use Rattle.std.proofs.lemmas.Int.{to_z-of_z}
 use Rattle.nest_mean.proofs.Walk.{invocation_traps, invocation_runs}
 use Rattle.nest_mean.proofs.courses.run_invocation.Goals as goal

@@ -1,4 +1,4 @@
-use Rattle.std.proofs.Common.{rules, ◌≡◌, to_z, of_z, w64, sym, ap, ◌∙◌}
+use Rattle.std.proofs.Common.{rules, ◌≡◌, to_z, of_z, w64, sym, ◌∙◌}
 use Rattle.std.proofs.lemmas.Int.{to_z-of_z}
 use Rattle.nest_mean.proofs.Walk.{region_traps, region_runs, region_room}
 use Rattle.nest_mean.proofs.courses.run_region.Goals as goal

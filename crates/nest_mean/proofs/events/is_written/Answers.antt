@@ -1,4 +1,4 @@
-use Rattle.std.proofs.Common.{refl, ne_eqb}
+use Rattle.std.proofs.Common.{ne_eqb}
 use Rattle.nest_mean.proofs.Scan.{told_behind_scalar, told_behind_array, told_here, told_nowhere}
 use Rattle.nest_mean.proofs.events.is_written.Goals as goal
 use Rattle.nest_mean.proofs.events.is_written.Goals.{in-Array+else-declared-name, in-Scalar}
@@ -9,8 +9,8 @@ returns-then-declared-name c = told_here _ _ _ _ _ _ _ _ c.loop-decl-test.true c
 pub loop-decl-preserved : goal.loop-decl-preserved
 loop-decl-preserved c =
     elim c.match-decl.branch [
-      in-Array+else-declared-name w ↦ told_behind_array _ _ _ _ _ _ _ _ c.loop-decl-test.true w.in-Array.is (ne_eqb _ _ w.if-declared-name.false) c.loop-decl.invariant
-    | in-Scalar w ↦ told_behind_scalar _ _ _ _ _ _ _ c.loop-decl-test.true w.in-Scalar.is c.loop-decl.invariant
+      | in-Array+else-declared-name w ↦ told_behind_array _ _ _ _ _ _ _ _ c.loop-decl-test.true w.in-Array.is (ne_eqb _ _ w.if-declared-name.false) c.loop-decl.invariant
+      | in-Scalar w ↦ told_behind_scalar _ _ _ _ _ _ _ c.loop-decl-test.true w.in-Scalar.is c.loop-decl.invariant
     ]
 
 pub returns : goal.returns

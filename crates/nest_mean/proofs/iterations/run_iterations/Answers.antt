@@ -1,4 +1,4 @@
-use Rattle.std.proofs.Common.{rules, ◌≡◌, ◌≤◌, arith, to_z, of_z, w64, sym, ap, ◌∙◌}
+use Rattle.std.proofs.Common.{rules, ◌≡◌, to_z, of_z, w64, ap, ◌∙◌}
 use Rattle.std.proofs.lemmas.Int.{to_z-of_z}
 use Rattle.std.proofs.lemmas.Result.{err_from_is_err_and}
 use Rattle.nest_syntax.specs.Words.{variable}
@@ -22,20 +22,20 @@ returns-in_err-run_iteration c =
     let low : to_z w64 (of_z w64 c.args.low) ≡ c.args.low = to_z-of_z w64 c.args.low c.ranges.low in
     let value : to_z w64 (of_z w64 c.value_in_turn.result) ≡ c.value_in_turn.result = to_z-of_z w64 c.value_in_turn.result (search rules) in
     let start : c.set.new.self ≡ with_scalar c.loop-k.scalars c.args.invoked.now.name (variable c.args.low c.args.invoked.now.step c.loop-k.k) =
-      c.set.ensures ∙ ap (with_scalar c.loop-k.scalars c.args.invoked.now.name) (value ∙ simp low at c.value_in_turn.ensures) in
+    c.set.ensures ∙ ap (with_scalar c.loop-k.scalars c.args.invoked.now.name) (value ∙ simp low at c.value_in_turn.ensures) in
     rw (p.1, p.2)
-      (iteration_stops _ _ _ _ _ _ _ c.loop-k.k c.loop-k-test.true _ _ _ (simp low at c.loop-k.invariant) c.set.new.self start _ _ _ _ (rw c.as_slice.ensures at c.in_err-run_iteration.ensures))
+    (iteration_stops _ _ _ _ _ _ _ c.loop-k.k c.loop-k-test.true _ _ _ (simp low at c.loop-k.invariant) c.set.new.self start _ _ _ _ (rw c.as_slice.ensures at c.in_err-run_iteration.ensures))
 
 pub loop-k-preserved : goal.loop-k-preserved
 loop-k-preserved c =
     let low : to_z w64 (of_z w64 c.args.low) ≡ c.args.low = to_z-of_z w64 c.args.low c.ranges.low in
     let value : to_z w64 (of_z w64 c.value_in_turn.result) ≡ c.value_in_turn.result = to_z-of_z w64 c.value_in_turn.result (search rules) in
     let start : c.set.new.self ≡ with_scalar c.loop-k.scalars c.args.invoked.now.name (variable c.args.low c.args.invoked.now.step c.loop-k.k) =
-      c.set.ensures ∙ ap (with_scalar c.loop-k.scalars c.args.invoked.now.name) (value ∙ simp low at c.value_in_turn.ensures) in
+    c.set.ensures ∙ ap (with_scalar c.loop-k.scalars c.args.invoked.now.name) (value ∙ simp low at c.value_in_turn.ensures) in
     let back : c.restore.new.scalars ≡ put_back (saved c.args.scalars.now (changed_in_loop c.args.invoked.now)) c.run_iteration.new.scalars =
-      c.restore.ensures ∙ ap (λ kept. put_back kept c.run_iteration.new.scalars) (c.as_slice-in-loop-k.ensures.value ∙ c.in_ok-kept.ensures) in
+    c.restore.ensures ∙ ap (λ kept. put_back kept c.run_iteration.new.scalars) (c.as_slice-in-loop-k.ensures.value ∙ c.in_ok-kept.ensures) in
     simp low
-      (iteration_runs _ _ _ _ _ _ _ c.loop-k.k c.loop-k-test.true _ _ _ (simp low at c.loop-k.invariant) c.set.new.self start _ _ _ c.restore.new.scalars (rw c.as_slice.ensures at c.in_ok-run_iteration.ensures) back)
+    (iteration_runs _ _ _ _ _ _ _ c.loop-k.k c.loop-k-test.true _ _ _ (simp low at c.loop-k.invariant) c.set.new.self start _ _ _ c.restore.new.scalars (rw c.as_slice.ensures at c.in_ok-run_iteration.ensures) back)
 
 pub returns : goal.returns
 returns c =

@@ -8,4 +8,4 @@ use Rattle.nest_mean.proofs.plain.run_regions.Given as goal
 abbrev pub invariant-loop-region : goal.invariant-loop-region
 invariant-loop-region l =
     IsAhead (arrays_of l.decls) l.opening.words (in_order (map (region_of (setting_on l.decls l.opening.words)) l.regions)) (in_order (map (region_of (setting_on l.decls l.opening.words)) (drop l.region-index l.regions))) 281474976710656
-      l.fn.scalars l.fn.number l.fn.words l.scalars l.number l.words
+    l.fn.scalars l.fn.number l.fn.words l.scalars l.number l.words

@@ -1,4 +1,4 @@
-use Rattle.std.proofs.Common.{sym, ap, ◌∙◌}
+use Rattle.std.proofs.Common.{ap, ◌∙◌}
 use Rattle.nest_syntax.specs.Arrays.{arrays_of, sizes_of}
 use Rattle.nest_mean.proofs.Tally.{first_form_runs, first_form_fits}
 use Rattle.nest_mean.proofs.jobs.Job.first.Goals as goal
