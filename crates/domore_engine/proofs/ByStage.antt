@@ -1,5 +1,5 @@
 -- The row of a worker by its stage, and what a row says of the move behind it.
-use Rattle.std.proofs.Common.{◌≡◌, ℕ, suc, ◌<◌, ◌++◌, ℤ, Bool, true, false, if◌then◌else◌, nat_lt, Option, Some, None, List, [], ◌∷◌, length, refl, sym, ap, ◌∙◌, subst, slice_set, arith}
+use Rattle.std.proofs.Common.{◌≡◌, ℕ, ◌<◌, ◌++◌, ℤ, Bool, true, false, if◌then◌else◌, nat_lt, Option, Some, None, List, [], ◌∷◌, refl, sym, ap, ◌∙◌, subst, slice_set, arith}
 use Rattle.std.specs.Option.{option_map}
 use Rattle.nest_syntax.specs.declared.tree.Program.{Program}
 use Rattle.nest_syntax.specs.declared.names.Line.{Line}
@@ -9,14 +9,13 @@ use Rattle.nest_syntax.specs.Arrays.{word_at, with_word}
 use Rattle.settle_law.specs.Tasks as tasks
 use Rattle.progress_board.specs.declared.actors.Row.{Row}
 use Rattle.progress_board.specs.declared.actors.Row.TheVariants as board
-use Rattle.domore_core.specs.Waits.{Wait}
-use Rattle.domore_core.specs.Machine.{Setup, State, Seat, Hand, Idle, Holding, Gone, Ticket, Move, DoScalar, DoClose, DoDrain, DoDispatch, DoHalt, DoTake, DoPass, DoRead, DoWrite, DoGo, DoFinish, DoTrap, DoDropHeld, DoDropQueued, DoEnd, is_above, done_at, seat_at, worker_move, stop_move, move_of, state_after}
+use Rattle.domore_core.specs.Machine.{Setup, Seat, Hand, Idle, Holding, Gone, Ticket, DoScalar, DoClose, DoDrain, DoDispatch, DoHalt, DoTake, DoPass, DoRead, DoWrite, DoGo, DoFinish, DoTrap, DoDropHeld, DoDropQueued, DoEnd, is_above, done_at, seat_at, worker_move, stop_move, move_of, state_after}
 use Rattle.domore_core.proofs.Guards.{Guard, guarded}
 use Rattle.first_tasks.specs.declared.position.Iteration.{Iteration}
 use Rattle.first_tasks.specs.declared.position.Position.{Position}
 use Rattle.first_tasks.specs.declared.stop.Stop.{Stop}
-use Rattle.first_tasks.specs.declared.stop.Stop.TheVariants.{Load, Store, Finish, Trap}
-use Rattle.first_tasks.specs.Pieces.{Piece, entry, stop_of}
+use Rattle.first_tasks.specs.declared.stop.Stop.TheVariants.{Load, Store, Trap}
+use Rattle.first_tasks.specs.Pieces.{Piece, stop_of}
 use Rattle.first_tasks.specs.Stops.{stop_told}
 use Rattle.first_tasks.specs.Setups.{setup}
 use Rattle.first_tasks.proofs.Pieces.{stop-exists, loads-next, stores-next}

@@ -1,5 +1,5 @@
 -- What the engine keeps, seen by its parts.
-use Rattle.std.proofs.Common.{◌≡◌, ℕ, ◌<◌, ◌≤◌, Bool, true, false, nat_lt, ◌==◌, if◌then◌else◌, Option, Some, None, IsSome, is_some, List, [], ◌∷◌, refl, sym, ap, ◌∙◌, subst, arith}
+use Rattle.std.proofs.Common.{◌≡◌, ℕ, ◌<◌, ◌≤◌, Bool, true, Option, Some, None, IsSome, is_some, List, [], ◌∷◌, refl, sym, ap, ◌∙◌, arith}
 use Rattle.std.specs.Option.{option_map, option_map_or}
 use Rattle.nest_syntax.specs.declared.tree.Program.{Program}
 use Rattle.nest_syntax.specs.Arrays.{arrays_of, sizes_of}
@@ -8,7 +8,6 @@ use Rattle.progress_board.specs.declared.actors.Row.{Row}
 use Rattle.progress_board.specs.declared.actors.Row.TheVariants as board
 use Rattle.domore_core.specs.Waits.{Wait}
 use Rattle.progress_board.specs.declared.actors.Made.{Made}
-use Rattle.progress_board.specs.declared.actors.Ask.{Ask}
 use Rattle.progress_board.specs.declared.actors.Ask.TheVariants.{Ready}
 use Rattle.progress_board.specs.declared.actors.Work.TheVariants.{Turn}
 use Rattle.domore_core.specs.Machine.{Seat, Hand, Idle, Holding, Ticket, DoScalar, DoClose, DoDrain, DoDispatch, DoHalt, DoTake, DoPass, DoRead, DoWrite, DoGo, DoFinish, DoTrap, DoDropHeld, DoDropQueued, DoEnd, seat_at}

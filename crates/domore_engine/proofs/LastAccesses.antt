@@ -1,17 +1,17 @@
 -- The last accesses give the waits of the next iteration.
-use Rattle.std.proofs.Common.{◌≡◌, ℕ, zero, suc, ◌+◌, ◌*◌, ◌%◌, ◌≤◌, ◌<◌, max, Bool, true, false, ◌&&◌, ◌||◌, ◌==◌, if◌then◌else◌, Option, Some, None, List, [], ◌++◌, length, slice_index_or, refl, sym, ap, ◌∙◌, subst, arith, ⊎_elim}
-use Rattle.std.proofs.lemmas.Bool.{cases_Bool, and_parts, and_right, or_cases, or_left, or_right, eqb-true, eqb-false, cond-true, cond-false, true≢false}
+use Rattle.std.proofs.Common.{◌≡◌, ℕ, zero, suc, ◌+◌, ◌*◌, ◌%◌, ◌≤◌, ◌<◌, max, Bool, true, false, ◌&&◌, ◌||◌, ◌==◌, if◌then◌else◌, Option, Some, None, List, [], ◌++◌, slice_index_or, refl, sym, ap, ◌∙◌, subst, arith, ⊎_elim}
+use Rattle.std.proofs.lemmas.Bool.{cases_Bool, and_parts, and_right, or_cases, or_left, or_right, eqb-true, eqb-false, cond-false, true≢false}
 use Rattle.std.proofs.lemmas.List.{length-replicate}
 use Rattle.nest_syntax.specs.declared.tree.Program.{Program}
-use Rattle.nest_syntax.specs.FirstForm.{First, IsKept}
+use Rattle.nest_syntax.specs.FirstForm.{IsKept}
 use Rattle.addr_slice.specs.Claims.{Claim, Claimed, has, is_claimed, words_of, no_claims, with_claims}
 use Rattle.domore_core.specs.Waits.{Wait, wait_for, greatest_clash, waits_below}
 use Rattle.first_tasks.specs.Form.{first_of}
-use Rattle.first_tasks.specs.Claims.{collide, clashes, claims_numbered}
+use Rattle.first_tasks.specs.Claims.{clashes, claims_numbered}
 use Rattle.addr_slice.proofs.Walks.{words_of-with_claims}
 use Rattle.first_tasks.proofs.Claimed.{clash_inverse, clash_by_words}
 use Rattle.domore_engine.specs.declared.shadow.Shadow.{Shadow}
-use Rattle.domore_engine.specs.Shadows.{greatest, claims_word, last_access, IsNoted, later, last_clash, last_below, waits_with}
+use Rattle.domore_engine.specs.Shadows.{greatest, claims_word, IsNoted, later, last_below, waits_with}
 
 -- greatest numbers
 greatest-less : (P : ℕ → Bool) (n a : ℕ) → greatest P n ≡ Some a → a < n

@@ -1,5 +1,5 @@
 -- What a step keeps.
-use Rattle.std.proofs.Common.{◌≡◌, ℕ, suc, ◌+◌, ◌*◌, ◌^◌, ◌<◌, ◌≤◌, Bool, true, false, nat_lt, ◌==◌, if◌then◌else◌, Option, Some, None, IsSome, List, [], ◌∷◌, length, refl, sym, ap, ◌∙◌, subst, arith, length-set}
+use Rattle.std.proofs.Common.{◌≡◌, ℕ, ◌+◌, ◌*◌, ◌^◌, ◌<◌, ◌≤◌, Bool, true, false, nat_lt, ◌==◌, if◌then◌else◌, Option, Some, None, IsSome, [], ◌∷◌, length, refl, sym, ap, ◌∙◌, subst, arith, length-set}
 use Rattle.std.specs.Option.{option_map}
 use Rattle.std.proofs.lemmas.Bool.{le-ltb, eqb-true, cond-false}
 use Rattle.nest_syntax.specs.declared.tree.Program.{Program}
@@ -10,25 +10,22 @@ use Rattle.std.proofs.Math.Nat.{mul-le-mul_left}
 use Rattle.progress_board.specs.declared.actors.Row.TheVariants as board
 use Rattle.progress_board.specs.declared.actors.Made.{Made}
 use Rattle.first_tasks.specs.declared.position.Position.TheVariants.{Inside}
-use Rattle.nest_mean.specs.Nest.{Nest}
-use Rattle.progress_board.specs.declared.options.Options.{Options}
 use Rattle.progress_board.specs.declared.actors.Row.{Row}
 use Rattle.progress_board.specs.declared.actors.Ask.TheVariants.{Ready}
 use Rattle.progress_board.specs.declared.actors.Work.TheVariants.{Turn}
-use Rattle.progress_board.specs.Runs.{IsReached}
 use Rattle.progress_board.proofs.Runs.{reached_step}
 use Rattle.domore_core.specs.Facts.{Facts}
 use Rattle.domore_core.specs.Machine.{Setup, State, DoScalar, DoClose, DoDrain, DoDispatch, DoHalt, DoTake, DoPass, DoRead, DoWrite, DoGo, DoFinish, DoTrap, DoDropHeld, DoDropQueued, DoEnd, scheduler_move, state_after}
 use Rattle.domore_core.specs.Machine as machine
-use Rattle.domore_core.proofs.Guards.{Guard, guarded}
+use Rattle.domore_core.proofs.Guards.{Guard}
 use Rattle.first_tasks.specs.declared.position.Iteration.{Iteration}
 use Rattle.first_tasks.specs.declared.position.Position.{Position}
 use Rattle.first_tasks.specs.Form.{first_of, first_form, count_of}
 use Rattle.first_tasks.specs.Pieces.{Piece}
 use Rattle.first_tasks.specs.Setups.{setup}
-use Rattle.first_tasks.proofs.Forms.{form_of, first-of_form, own_form}
+use Rattle.first_tasks.proofs.Forms.{form_of, first-of_form}
 use Rattle.domore_engine.specs.declared.table.Table.{Table}
-use Rattle.domore_engine.specs.Engine.{Engine, Row_data, Table as States, setup_of, setup_in, program_in, row_of, move_of, step, opening, answer, made_of}
+use Rattle.domore_engine.specs.Engine.{Engine, Row_data, Table as States, setup_in, program_in, row_of, step, opening, answer, made_of}
 use Rattle.domore_engine.specs.Tables.{state_of, IsSame, IsSound, IsPlaced}
 use Rattle.domore_engine.specs.Kept.{IsKept as IsEngineKept}
 use Rattle.domore_engine.specs.Shadows.{IsNoted}

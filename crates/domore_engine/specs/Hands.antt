@@ -1,5 +1,5 @@
 -- What a worker holds, as the abstract machine has it.
-use Rattle.std.specs.Prelude.{ℕ, ◌<◌, ◌^◌}
+use Rattle.std.specs.Prelude.{◌<◌, ◌^◌}
 use Rattle.domore_core.specs.Machine.{Hand, Idle, Holding, Gone}
 use Rattle.first_tasks.specs.Pieces.{Piece}
 use Rattle.domore_engine.specs.declared.hand.Held.{Held}

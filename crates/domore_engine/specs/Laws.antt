@@ -1,18 +1,16 @@
 -- The engine keeps the laws of a machine, since its abstract machine does.
-use Rattle.std.specs.Prelude.{◌≡◌, ◌↔◌, ℕ, ◌+◌, ◌<◌, ◌≤◌, Bool, true, false, nat_lt, ◌==◌, if◌then◌else◌, Option, None, Some, is_some, List, [], ◌∷◌, refl}
+use Rattle.std.specs.Prelude.{◌≡◌, ◌↔◌, ℕ, ◌+◌, ◌≤◌, Bool, true, false, nat_lt, ◌==◌, Option, None, Some, is_some, List, [], ◌∷◌, refl}
 use Rattle.std.specs.Option.{option_map, option_and_then}
 use Rattle.std.proofs.Common.{arith, ap, ◌∙◌, sym, subst}
 use Rattle.std.proofs.lemmas.Bool.{le-ltb, ne_eqb, cond-false}
 use Rattle.nest_mean.specs.Nest.{Nest}
 use Rattle.progress_board.specs.declared.options.Options.{Options}
-use Rattle.progress_board.specs.declared.actors.Ask.{Ask}
-use Rattle.progress_board.specs.declared.actors.Ask.TheVariants.{Ready, NotYet, Ended}
+use Rattle.progress_board.specs.declared.actors.Ask.TheVariants.{Ended}
 use Rattle.progress_board.specs.Options.{IsInRange}
 use Rattle.progress_board.specs.Actors.{actors_of, is_ready, SomeEnabled, AllEnded}
 use Rattle.progress_board.specs.Runs.{run, IsReached}
 use Rattle.domore_core.specs.Machine as machine
 use Rattle.domore_core.specs.Runs as runs
-use Rattle.domore_core.specs.Measure as measures
 use Rattle.domore_core.specs.Theorems.{IsSetupFor, Leads}
 use Rattle.domore_core.proofs.Falls as falling
 use Rattle.domore_core.proofs.Progress.{goes_on}

@@ -1,5 +1,5 @@
 -- The facts of a run as they are reported.
-use Rattle.std.specs.Prelude.{ℕ, ◌-◌, Option, Some, None, List, ◌++◌, map, length, replicate}
+use Rattle.std.specs.Prelude.{◌-◌, Option, Some, None, List, ◌++◌, map, length, replicate}
 use Rattle.progress_board.specs.declared.options.Options.{Options}
 use Rattle.progress_board.specs.declared.facts.Facts.{Facts as Report}
 use Rattle.progress_board.specs.declared.facts.Wait.{Wait}

@@ -1,6 +1,6 @@
 -- The last accesses: for each word and each worker, the greatest iterations of it that claim the word for reading and for
 -- writing.
-use Rattle.std.specs.Prelude.{◌≡◌, ℕ, zero, suc, ◌+◌, ◌*◌, ◌%◌, ◌<◌, ◌≤◌, Bool, true, false, ◌&&◌, ◌==◌, if◌then◌else◌, nat_lt, Option, Some, None, List, [], ◌++◌, length, slice_index_or, max}
+use Rattle.std.specs.Prelude.{◌≡◌, ℕ, zero, suc, ◌+◌, ◌*◌, ◌%◌, ◌<◌, Bool, true, false, ◌&&◌, ◌==◌, if◌then◌else◌, nat_lt, Option, Some, None, List, [], ◌++◌, length, slice_index_or, max}
 use Rattle.nest_syntax.specs.declared.tree.Program.{Program}
 use Rattle.addr_slice.specs.Claims.{has, is_claimed, no_claims, with_claims, words_of}
 use Rattle.domore_core.specs.Waits.{Wait, wait_for}

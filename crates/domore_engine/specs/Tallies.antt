@@ -1,5 +1,5 @@
 -- The counts of a run as they are kept: as a report, and the number of the first iteration of the invocation.
-use Rattle.std.specs.Prelude.{◌≡◌, ℕ, suc, ◌+◌, ◌≤◌, if◌then◌else◌, min, nat_lt, Option, Some, None, List, [], ◌∷◌, ◌++◌, take, length}
+use Rattle.std.specs.Prelude.{◌≡◌, ℕ, suc, ◌+◌, if◌then◌else◌, min, nat_lt, Option, Some, None, List, [], ◌∷◌, ◌++◌, take, length}
 use Rattle.progress_board.specs.declared.options.Options.{Options}
 use Rattle.progress_board.specs.declared.facts.Facts.{Facts as Report}
 use Rattle.progress_board.specs.declared.facts.Wait.{Wait as Place}

@@ -1,8 +1,8 @@
 -- The claims of the iterations hold their trees, so iterations whose claims don't clash are apart.
-use Rattle.std.proofs.Common.{◌≡◌, ◌≢◌, ℕ, zero, suc, ◌*◌, ◌≤◌, ◌<◌, ◌⊎◌, ℤ, Bool, true, false, ◌&&◌, ◌||◌, ◌==◌, Option, Some, None, List, [], ◌∷◌, length, get_or, set, replicate, inl, inr, ⊎_elim, refl, sym, ap, ◌∙◌, subst, arith}
+use Rattle.std.proofs.Common.{◌≡◌, ℕ, ◌*◌, ◌≤◌, ◌<◌, ◌⊎◌, ℤ, Bool, true, false, ◌||◌, Option, None, List, [], ◌∷◌, set, replicate, inl, inr, ⊎_elim, refl, sym, ap, ◌∙◌, subst, arith}
 use Rattle.std.specs.List.{list_any}
 use Rattle.std.specs.Option.{option_map_or}
-use Rattle.std.proofs.lemmas.Bool.{cases_eq, cases_lt, cases_Bool, eq-eqb, or_cases, or_left, or_right, and_from, true≢false, false≢true}
+use Rattle.std.proofs.lemmas.Bool.{cases_eq, cases_lt, eq-eqb, or_cases, or_left, or_right, and_from, true≢false, false≢true}
 use Rattle.std.proofs.lemmas.List.{get_or-set_other, get_or-replicate, get_or_past, length-replicate}
 use Rattle.nest_syntax.specs.declared.tree.Program.{Program}
 use Rattle.nest_syntax.specs.Arrays.{arrays_of, sizes_of}
@@ -16,20 +16,19 @@ use Rattle.addr_slice.proofs.Held as Held
 use Rattle.addr_slice.proofs.Room.{walk_of_write-within}
 use Rattle.addr_slice.specs.Within as slice
 use Rattle.addr_slice.proofs.Turns.{hold}
-use Rattle.settle_law.specs.Cuts.{Cut, cut, plain, is_full, one_more}
+use Rattle.settle_law.specs.Cuts.{cut, plain, is_full, one_more}
 use Rattle.settle_law.specs.Trees.{Tree}
 use Rattle.settle_law.specs.Trees as tree
 use Rattle.settle_law.specs.Traces.{Apart}
 use Rattle.settle_law.specs.Claims.{Claims, Within, Clash, claimed}
-use Rattle.settle_law.specs.Courses.{Nest, nest_of, family_of, iteration_at, cut_at}
+use Rattle.settle_law.specs.Courses.{Nest, nest_of, family_of, cut_at}
 use Rattle.settle_law.proofs.Claims.{apart-from_claims}
 use Rattle.settle_law.proofs.Turns.{plain_pausing}
-use Rattle.first_tasks.specs.declared.position.Iteration.{Iteration}
 use Rattle.first_tasks.specs.Form.{first_of, count_of}
 use Rattle.first_tasks.specs.Iterations.{iteration_numbered, scalars_in, turn_at, cut_turn}
 use Rattle.first_tasks.specs.Claims.{claims_in, claims_numbered, collide, clash, clashes}
 use Rattle.first_tasks.proofs.Forms.{first-of_form}
-use Rattle.first_tasks.proofs.Numbers.{IsIteration, iteration-numbered, none_behind}
+use Rattle.first_tasks.proofs.Numbers.{iteration-numbered, none_behind}
 
 -- a list has a claim of this word, for writing or for reading
 abbrev pub Lists : List Claim → ℕ → Bool → Type 0

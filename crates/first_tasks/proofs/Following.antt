@@ -1,6 +1,5 @@
 -- The cursor follows the course of a program of the first form.
-use Rattle.std.proofs.Common.{◌≡◌, ◌≢◌, ℕ, zero, suc, ◌+◌, ◌-◌, ◌*◌, ◌/◌, ◌≤◌, ◌<◌, ℤ, pos, Bool, true, false, nat_lt, nat_le, ◌||◌, if◌then◌else◌, Option, Some, None, Result, Ok, Err, List, [], ◌∷◌, ◌++◌, map, length, slice_set, refl, sym, ap, ◌∙◌, subst, arith}
-use Rattle.std.specs.Int.{int_gap}
+use Rattle.std.proofs.Common.{◌≡◌, ℕ, zero, suc, ◌+◌, ◌-◌, ◌/◌, ◌≤◌, ℤ, pos, false, nat_lt, nat_le, ◌||◌, if◌then◌else◌, None, Result, Ok, Err, List, [], ◌∷◌, map, refl, sym, ap, ◌∙◌, subst, arith}
 use Rattle.std.proofs.lemmas.Bool.{lt-ltb, le-ltb, le-leb, cond-true, cond-false}
 use Rattle.std.proofs.lemmas.List.{set-set}
 use Rattle.nest_syntax.specs.declared.names.Line.{Line}
@@ -10,23 +9,19 @@ use Rattle.nest_syntax.specs.declared.tree.Expr.{Expr}
 use Rattle.nest_syntax.specs.declared.tree.Expr.TheVariants as expr
 use Rattle.nest_syntax.specs.declared.tree.Stmt.{Stmt}
 use Rattle.nest_syntax.specs.declared.tree.Stmt.TheVariants as stmt
-use Rattle.nest_syntax.specs.declared.tree.Loop.{Loop}
 use Rattle.nest_syntax.specs.declared.tree.Program.{Program}
 use Rattle.nest_syntax.specs.Words.{turns, counted, variable}
-use Rattle.nest_syntax.specs.Arrays.{Array, arrays_of, sizes_of}
 use Rattle.nest_syntax.specs.Value.{value, and_then, with_scalar, names_written}
 use Rattle.nest_syntax.specs.Course.{Course, Purpose, Ordinary, Header, Setting, Item, Looped, Layer_of_loop, setting_of, computed, event, bounds, iterations, region_turns, in_order, item_of, looped_of, region_of, course_of, whole_of, opening_scalars, bodies_of}
 use Rattle.nest_syntax.specs.Course as course
-use Rattle.nest_syntax.specs.FirstForm.{First, Turns, IsKept, IsFirstForm, loop_of, regions_of, greatest_bound}
+use Rattle.nest_syntax.specs.FirstForm.{First, Turns, IsKept, IsFirstForm, greatest_bound}
 use Rattle.nest_syntax.proofs.Equations.{value-number, names_written-number, looped-is, item-loop}
 use Rattle.addr_slice.proofs.Parts.{write_of, invocation_of, region_of as region}
-use Rattle.settle_law.specs.Cuts.{Cut}
-use Rattle.settle_law.specs.Courses.{Nest, Trap, Event, End, Scalar, Iterate, Close, Follows, nest_of, trap_of, cut_at}
-use Rattle.first_tasks.specs.declared.position.Iteration.{Iteration}
+use Rattle.settle_law.specs.Courses.{Nest, Scalar, Follows, nest_of, trap_of, cut_at}
 use Rattle.first_tasks.specs.declared.position.Position.{Position}
 use Rattle.first_tasks.specs.declared.position.Position.TheVariants as position
 use Rattle.first_tasks.specs.Form.{first_of, count_of}
-use Rattle.first_tasks.specs.Iterations.{iteration_of, scalars_in, cut_turn}
+use Rattle.first_tasks.specs.Iterations.{iteration_of, cut_turn}
 use Rattle.first_tasks.specs.Positions.{event_at}
 use Rattle.first_tasks.proofs.Forms.{first-kept, form_with}
 

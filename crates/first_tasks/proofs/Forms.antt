@@ -1,9 +1,9 @@
 -- The parts that are read out of a program: of one of the first form they are its own, and they always keep the
 -- conditions of the first form.
-use Rattle.std.proofs.Common.{◌≡◌, ◌≢◌, ℕ, ◌+◌, ◌≤◌, ℤ, pos, Bool, true, false, not, ◌&&◌, ◌==◌, nat_le, if◌then◌else◌, IsTrue, Option, Some, None, List, [], ◌∷◌, refl, sym, ap, ◌∙◌, arith}
+use Rattle.std.proofs.Common.{◌≡◌, ◌≢◌, ℕ, ℤ, pos, Bool, true, false, not, ◌==◌, if◌then◌else◌, Option, Some, None, List, [], ◌∷◌, refl, sym, ap, ◌∙◌, arith}
 use Rattle.std.specs.Option.{option_map_or, option_and_then}
 use Rattle.std.proofs.lemmas.Bool.{and_parts, and_from, not-true, not_from_false, eqb-false, ne_eqb, le-leb, leb-true}
-use Rattle.nest_syntax.specs.declared.tree.Expr.{Expr, out-Expr}
+use Rattle.nest_syntax.specs.declared.tree.Expr.{out-Expr}
 use Rattle.nest_syntax.specs.declared.tree.Expr.TheOpen.{Expr-F}
 use Rattle.nest_syntax.specs.declared.tree.Expr.TheFolds.{fold-roll-Expr}
 use Rattle.nest_syntax.specs.declared.tree.Expr.TheVariants as expr
@@ -13,12 +13,11 @@ use Rattle.nest_syntax.specs.declared.tree.Stmt.TheVariants as stmt
 use Rattle.nest_syntax.specs.declared.tree.Stmt.TheVariants.{outs-Loop, outs-Write}
 use Rattle.nest_syntax.specs.declared.operators.Op.TheVariants as op
 use Rattle.nest_syntax.specs.declared.tree.Loop.{Loop}
-use Rattle.nest_syntax.specs.declared.tree.Decl.{Decl}
 use Rattle.nest_syntax.specs.declared.tree.Decl.TheVariants as decl
 use Rattle.nest_syntax.specs.declared.tree.Program.{Program}
-use Rattle.nest_syntax.specs.FirstForm.{First, Turns, IsKept, IsFirstForm, loop_of, decls_of, regions_of, is_allowed, node_allowed, is_number, operators, node_operators, greatest_bound}
+use Rattle.nest_syntax.specs.FirstForm.{First, Turns, IsKept, IsFirstForm, loop_of, decls_of, regions_of, is_allowed, node_allowed, is_number, operators, node_operators}
 use Rattle.addr_slice.proofs.Parts.{write_of, invocation_of, region_of}
-use Rattle.first_tasks.specs.Form.{number_at, turns_at, loop_at, loop_in, with_write, with_block, read_parts, is_kept, no_iterations, first_of, first_form}
+use Rattle.first_tasks.specs.Form.{number_at, turns_at, loop_at, with_write, with_block, read_parts, is_kept, no_iterations, first_of, first_form}
 
 turns-of_loop : (turns : Turns) (body : List Stmt) → turns_at (loop_of turns body) ≡ turns
 turns-of_loop turns body =

@@ -1,11 +1,10 @@
 -- The iterations of the nest by their numbers: the cursor tells them.
-use Rattle.std.proofs.Common.{◌≡◌, ℕ, zero, suc, ◌+◌, ◌*◌, ◌/◌, ◌%◌, ◌≤◌, ◌<◌, ℤ, nat_lt, Option, Some, None, List, [], ◌∷◌, ◌++◌, refl, sym, ap, ◌∙◌, subst, ⊎_elim, arith}
-use Rattle.std.proofs.lemmas.Bool.{lt-ltb, le-ltb, cases_lt, cond-true, cond-false}
-use Rattle.std.proofs.lemmas.Nat.{mod_below, div-add-mod', div-mul-add}
+use Rattle.std.proofs.Common.{◌≡◌, ℕ, zero, suc, ◌+◌, ◌*◌, ◌/◌, ◌%◌, ◌≤◌, ◌<◌, ℤ, nat_lt, Some, None, List, [], refl, ap, subst, arith}
+use Rattle.std.proofs.lemmas.Bool.{lt-ltb, le-ltb, cond-true, cond-false}
+use Rattle.std.proofs.lemmas.Nat.{mod_below, div-add-mod'}
 use Rattle.nest_syntax.specs.declared.tree.Program.{Program}
 use Rattle.nest_syntax.specs.Outcome.{Event as Passed}
 use Rattle.nest_syntax.specs.FirstForm.{First, IsFirstForm}
-use Rattle.settle_law.specs.Cuts.{Cut}
 use Rattle.settle_law.specs.Courses.{Nest, Event, End, Scalar, Iterate, Close, Behind, AtEvent, nest_of, iteration_at, cut_at}
 use Rattle.settle_law.proofs.Cursors.{at_event, begins}
 use Rattle.nest_syntax.specs.Course.{Ordinary, Header}

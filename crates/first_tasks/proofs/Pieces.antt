@@ -1,5 +1,5 @@
 -- The pieces realise the cut turns.
-use Rattle.std.proofs.Common.{◌≡◌, ℕ, zero, suc, ◌+◌, ◌-◌, ◌≤◌, ◌<◌, ℤ, pos, replicate, Some, Bool, true, false, if◌then◌else◌, None, List, [], ◌∷◌, ◌++◌, length, refl, sym, ap, ◌∙◌, subst, arith, length-append}
+use Rattle.std.proofs.Common.{◌≡◌, ℕ, zero, suc, ◌+◌, ◌≤◌, ◌<◌, ℤ, pos, replicate, Some, Bool, true, false, if◌then◌else◌, List, [], ◌∷◌, ◌++◌, length, refl, sym, ap, ◌∙◌, subst, arith, length-append}
 use Rattle.std.proofs.Common.{⊎_elim}
 use Rattle.std.proofs.lemmas.Bool.{cases_Bool}
 use Rattle.nest_syntax.specs.declared.tree.Program.{Program}
@@ -10,15 +10,15 @@ use Rattle.nest_syntax.specs.Value.{with_scalar}
 use Rattle.nest_syntax.specs.Turn.{Turn, turn_of}
 use Rattle.nest_syntax.specs.Course.{bodies_of, declared_scalars}
 use Rattle.nest_syntax.specs.Outcome.{turn_in}
-use Rattle.nest_syntax.specs.FirstForm.{First, IsKept, IsFirstForm, decls_of}
+use Rattle.nest_syntax.specs.FirstForm.{First, IsFirstForm, decls_of}
 use Rattle.addr_slice.proofs.Bodies.{bodies-of_first, turn-of_write}
 use Rattle.addr_slice.proofs.Parts.{write_of}
 use Rattle.settle_law.specs.Cuts.{Cut, cut, Finished, Trapped, Reads, Writes, Pauses}
-use Rattle.settle_law.specs.Tasks.{Realises, Loads, Stores, Finishes, Traps}
+use Rattle.settle_law.specs.Tasks.{Realises, Loads, Stores, Finishes}
 use Rattle.first_tasks.specs.declared.position.Iteration.{Iteration}
 use Rattle.first_tasks.specs.Form.{first_of}
 use Rattle.first_tasks.specs.Iterations.{scalars_in, cut_turn}
-use Rattle.first_tasks.specs.Pieces.{Piece, entry, left_behind, stop_at, stop_of, stops_left, most_reads, system_of}
+use Rattle.first_tasks.specs.Pieces.{Piece, entry, left_behind, stop_at, stop_of, most_reads, system_of}
 use Rattle.first_tasks.specs.declared.stop.Stop.{Stop}
 use Rattle.first_tasks.specs.declared.stop.Stop.TheVariants.{Load, Store, Finish, Trap}
 use Rattle.first_tasks.specs.Frames.{scalars_of}

@@ -1,5 +1,4 @@
 -- The setup of a program of the first form is right.
-use Rattle.std.proofs.Common.{◌≡◌}
 use Rattle.first_tasks.specs.Setups.{SetupsAreRight}
 use Rattle.first_tasks.proofs.Pieces.{begins}
 use Rattle.first_tasks.proofs.Following.{follows}

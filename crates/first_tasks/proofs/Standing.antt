@@ -1,11 +1,10 @@
 -- How far an expression gets with the words read says where its cut turn stands behind them.
-use Rattle.std.proofs.Common.{◌≡◌, ℕ, zero, suc, ◌+◌, ◌≤◌, ◌<◌, ℤ, pos, Bool, true, false, ◌&&◌, ◌==◌, ◌||◌, nat_lt, if◌then◌else◌, IsTrue, Option, Some, None, Result, Ok, Err, List, [], ◌∷◌, length, get_or, drop, refl, sym, ap, ◌∙◌, subst, arith, drop-cons, add-one}
+use Rattle.std.proofs.Common.{◌≡◌, ℕ, suc, ◌+◌, ◌≤◌, ◌<◌, ℤ, pos, Bool, true, false, ◌&&◌, ◌==◌, nat_lt, if◌then◌else◌, IsTrue, Option, Some, None, Result, Ok, Err, List, [], ◌∷◌, length, get_or, drop, refl, sym, ap, ◌∙◌, subst, arith, drop-cons}
 use Rattle.std.specs.Option.{option_map_or}
 use Rattle.std.proofs.lemmas.List.{drop_all}
-use Rattle.std.proofs.lemmas.Bool.{and_parts, false≢true, ltb-true, ltb-false, cond-true, cond-false}
+use Rattle.std.proofs.lemmas.Bool.{and_parts, false≢true, ltb-true, ltb-false}
 use Rattle.nest_syntax.specs.declared.names.Line.{Line}
 use Rattle.nest_syntax.specs.declared.operators.Bin.{Bin}
-use Rattle.nest_syntax.specs.declared.operators.Un.{Un}
 use Rattle.nest_syntax.specs.declared.operators.Cause.{Cause}
 use Rattle.nest_syntax.specs.declared.operators.Cause.TheVariants.{Index}
 use Rattle.nest_syntax.specs.declared.tree.Expr.{Expr}
@@ -20,7 +19,7 @@ use Rattle.nest_syntax.specs.Turn.{Turn, Finished, Load, Reckoning, reckoning, d
 use Rattle.nest_syntax.specs.FirstForm.{is_allowed, is_arithmetic, operators}
 use Rattle.nest_syntax.proofs.Equations.{reckoning-number, reckoning-scalar, reckoning-word, reckoning-binary}
 use Rattle.addr_slice.proofs.Nodes.{expr_induction, allowed-unary, allowed-binary, allowed-word, allowed-choice}
-use Rattle.addr_slice.proofs.Sound.{arithmetic, turn-arithmetic}
+use Rattle.addr_slice.proofs.Sound.{turn-arithmetic}
 use Rattle.settle_law.specs.Cuts.{Cut, cut}
 use Rattle.settle_law.specs.Cuts as cuts
 use Rattle.first_tasks.specs.declared.reckoned.Reckoned.{Reckoned}

@@ -1,19 +1,17 @@
 -- The cut turn of an iteration of the first form is straight: a few reads, and then a trap, or a write and the end. It has
 -- no pause, since it has too few operations.
-use Rattle.std.proofs.Common.{◌≡◌, ℕ, zero, suc, ◌+◌, ◌≤◌, ◌<◌, ℤ, pos, negsuc, nat_lt, Bool, true, false, ◌&&◌, ◌==◌, ◌||◌, if◌then◌else◌, IsTrue, Option, Some, None, Ok, List, [], ◌∷◌, refl, sym, ap, ◌∙◌, subst, arith}
+use Rattle.std.proofs.Common.{◌≡◌, ℕ, zero, suc, ◌+◌, ◌≤◌, ◌<◌, ℤ, pos, negsuc, nat_lt, Bool, true, false, ◌&&◌, ◌==◌, if◌then◌else◌, IsTrue, Option, Some, None, List, [], ◌∷◌, refl, sym, ap, ◌∙◌, subst, arith}
 use Rattle.std.proofs.lemmas.Bool.{and_parts, false≢true, ne_eqb, ltb-true}
 use Rattle.nest_syntax.specs.declared.names.Line.{Line}
 use Rattle.nest_syntax.specs.declared.operators.Bin.{Bin}
-use Rattle.nest_syntax.specs.declared.operators.Un.{Un}
 use Rattle.nest_syntax.specs.declared.tree.Expr.{Expr}
 use Rattle.nest_syntax.specs.declared.tree.Expr.TheOpen.{Expr-F}
 use Rattle.nest_syntax.specs.declared.tree.Expr.TheFolds.{fold-roll-Expr}
 use Rattle.nest_syntax.specs.declared.tree.Expr.TheVariants as expr
 use Rattle.nest_syntax.specs.declared.tree.Expr.TheVariants.{rolls-Number, rolls-Scalar, rolls-Word, rolls-Unary, rolls-Binary, rolls-Choice}
-use Rattle.nest_syntax.specs.Words.{apply}
 use Rattle.std.specs.Option.{option_map, option_and_then}
 use Rattle.nest_syntax.specs.Arrays.{Array, sizes_of, located, place_of, word_number}
-use Rattle.nest_syntax.specs.Turn.{Turn, Finished, Load, Store, Op, Reckoning, reckoning, done_with, inside, writing}
+use Rattle.nest_syntax.specs.Turn.{Turn, Finished, Load, Op, Reckoning, reckoning, done_with, inside, writing}
 use Rattle.nest_syntax.specs.FirstForm.{First, IsKept, is_allowed, is_arithmetic, operators, node_operators}
 use Rattle.nest_syntax.proofs.Equations.{reckoning-number, reckoning-scalar, reckoning-word, reckoning-binary}
 use Rattle.addr_slice.proofs.Nodes.{expr_induction, allowed-unary, allowed-binary, allowed-word, allowed-choice}

@@ -1,7 +1,6 @@
 -- What a program of the first form is made of, read out of its tree.
 use Rattle.std.specs.Prelude.{ℕ, ◌+◌, ◌-◌, pos, unsigned_abs, Bool, true, false, not, ◌&&◌, ◌==◌, nat_le, if◌then◌else◌, Option, Some, None, List, [], ◌∷◌}
 use Rattle.std.specs.Option.{option_map_or, option_and_then}
-use Rattle.nest_syntax.specs.declared.names.Line.{Line}
 use Rattle.nest_syntax.specs.declared.tree.Expr.{Expr, out-Expr}
 use Rattle.nest_syntax.specs.declared.tree.Expr.TheOpen.{Expr-F}
 use Rattle.nest_syntax.specs.declared.tree.Expr.TheVariants as expr

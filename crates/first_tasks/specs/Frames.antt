@@ -1,5 +1,5 @@
 -- What an expression is reckoned in: the program's array, and the scalars of an iteration.
-use Rattle.std.specs.Prelude.{ℕ, ℤ, pos, false, List, [], ◌∷◌, replicate}
+use Rattle.std.specs.Prelude.{ℤ, pos, false, List, [], ◌∷◌, replicate}
 use Rattle.nest_syntax.specs.Arrays.{Array}
 use Rattle.nest_syntax.specs.Value.{with_scalar}
 use Rattle.first_tasks.specs.declared.frame.Frame.{Frame}

@@ -1,5 +1,5 @@
 -- The events of the scheduler at each position.
-use Rattle.std.specs.Prelude.{◌≡◌, ℕ, suc, ◌+◌, ◌*◌, ◌<◌, ◌≤◌, if◌then◌else◌, nat_lt, None}
+use Rattle.std.specs.Prelude.{ℕ, suc, ◌+◌, ◌*◌, ◌<◌, ◌≤◌, if◌then◌else◌, nat_lt, None}
 use Rattle.nest_syntax.specs.FirstForm.{First}
 use Rattle.nest_syntax.specs.Course.{Ordinary, Header}
 use Rattle.settle_law.specs.Courses.{Event, End, Scalar, Iterate, Close}

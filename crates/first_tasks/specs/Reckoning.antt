@@ -1,7 +1,6 @@
 -- The value of an expression on a list of words read: how far it gets with them, from the `at`-th on.
-use Rattle.std.specs.Prelude.{ℕ, ◌+◌, ℤ, pos, nat_lt, if◌then◌else◌, Option, Result, Ok, Err, List, length, slice_index_or}
+use Rattle.std.specs.Prelude.{ℕ, ◌+◌, ℤ, pos, nat_lt, if◌then◌else◌, Result, Ok, Err, List, length, slice_index_or}
 use Rattle.std.specs.Option.{option_map_or}
-use Rattle.nest_syntax.specs.declared.operators.Bin.{Bin}
 use Rattle.nest_syntax.specs.declared.operators.Cause.{Cause}
 use Rattle.nest_syntax.specs.declared.operators.Cause.TheVariants.{Index}
 use Rattle.nest_syntax.specs.declared.tree.Expr.{Expr}

@@ -1,7 +1,6 @@
 -- The stop of a piece of work as it is told, and how it is found: by how far the place and the value of the write get
 -- with the words read so far.
 use Rattle.std.specs.Prelude.{ℕ, ◌<◌, ℤ, Option, Some, None, List, length}
-use Rattle.std.specs.Option.{option_map_or}
 use Rattle.nest_syntax.specs.declared.names.Line.{Line}
 use Rattle.nest_syntax.specs.declared.operators.Cause.TheVariants.{Index}
 use Rattle.nest_syntax.specs.declared.tree.Expr.{Expr}

@@ -1,4 +1,4 @@
-use Rattle.std.proofs.Common.{◌≡◌, Some, None, ap}
+use Rattle.std.proofs.Common.{ap}
 use Rattle.std.specs.Option.{option_copied}
 use Rattle.nest_syntax.specs.declared.tree.Loop.{Loop}
 use Rattle.first_tasks.specs.Form.{first_of, inner_loop}

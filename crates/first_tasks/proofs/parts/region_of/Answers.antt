@@ -1,4 +1,4 @@
-use Rattle.std.proofs.Common.{◌≡◌, ap, sym, ◌∙◌}
+use Rattle.std.proofs.Common.{ap, sym, ◌∙◌}
 use Rattle.addr_slice.proofs.Parts.{region-is}
 use Rattle.first_tasks.specs.Form.{outer_loop}
 use Rattle.first_tasks.proofs.Forms.{first-of_form}

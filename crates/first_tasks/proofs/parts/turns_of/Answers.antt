@@ -1,4 +1,4 @@
-use Rattle.std.proofs.Common.{◌≡◌, ◌-◌, pos, unsigned_abs, ap, ◌∙◌}
+use Rattle.std.proofs.Common.{◌≡◌, ◌-◌, pos, ap, ◌∙◌}
 use Rattle.nest_syntax.specs.declared.tree.Loop.{Loop}
 use Rattle.first_tasks.proofs.parts.turns_of.Goals as goal
 

@@ -12,7 +12,6 @@ use Rattle.first_tasks.specs.Form.{first_of}
 use Rattle.first_tasks.specs.Frames.{scalars_of}
 use Rattle.first_tasks.specs.Iterations.{scalars_in}
 use Rattle.first_tasks.specs.Claims.{claims_in}
-use Rattle.first_tasks.specs.Stops.{frame_of}
 use Rattle.first_tasks.proofs.Forms.{form_with, first-of_form}
 use Rattle.first_tasks.proofs.Pieces.{frame-scalars}
 use Rattle.first_tasks.proofs.stops.claim_words.Goals as goal

@@ -1,8 +1,8 @@
-use Rattle.std.proofs.Common.{◌≡◌, ◌≤◌, false, true, IsTrue, Some, length, ap, sym, ◌∙◌, subst}
-use Rattle.nest_syntax.specs.FirstForm.{First, is_allowed}
+use Rattle.std.proofs.Common.{◌≡◌, ◌≤◌, false, true, IsTrue, Some, ap, sym, ◌∙◌, subst}
+use Rattle.nest_syntax.specs.FirstForm.{is_allowed}
 use Rattle.first_tasks.specs.declared.frame.Frame.{Frame}
 use Rattle.first_tasks.specs.Form.{first_of}
-use Rattle.first_tasks.specs.Stops.{stop_told, stop_in, frame_of}
+use Rattle.first_tasks.specs.Stops.{stop_in, frame_of}
 use Rattle.first_tasks.proofs.Forms.{first-kept}
 use Rattle.first_tasks.proofs.Pieces.{stop-stored, stop-reckoned, stop-possible_in_13}
 use Rattle.first_tasks.proofs.stops.next_stop.Goals as goal

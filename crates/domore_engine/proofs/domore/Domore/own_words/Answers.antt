@@ -1,4 +1,4 @@
-use Rattle.std.proofs.Common.{◌≡◌, refl, ap, ◌∙◌}
+use Rattle.std.proofs.Common.{refl, ap, ◌∙◌}
 use Rattle.domore_engine.specs.Engine.{words_of}
 use Rattle.domore_engine.proofs.Keeping.{words-are}
 use Rattle.domore_engine.proofs.domore.Domore.own_words.Goals as goal

@@ -1,4 +1,4 @@
-use Rattle.std.proofs.Common.{◌≡◌, sym, ◌∙◌}
+use Rattle.std.proofs.Common.{sym, ◌∙◌}
 use Rattle.domore_engine.specs.Laws.{progress}
 use Rattle.domore_engine.proofs.machine.DomoreMachine.finished.Goals as goal
 

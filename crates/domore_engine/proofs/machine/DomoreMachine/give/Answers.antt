@@ -1,7 +1,6 @@
-use Rattle.std.proofs.Common.{◌≡◌, true, sym, ap, ◌∙◌}
+use Rattle.std.proofs.Common.{sym, ap, ◌∙◌}
 use Rattle.progress_board.specs.declared.actors.Ask.TheVariants.{Ready}
-use Rattle.progress_board.specs.declared.actors.Work.TheVariants.{Turn}
-use Rattle.domore_engine.specs.Engine.{move_of, has_ended, asked}
+use Rattle.domore_engine.specs.Engine.{move_of, has_ended}
 use Rattle.domore_engine.proofs.Stepping.{ready_row, ready_some, made_row}
 use Rattle.domore_engine.proofs.machine.DomoreMachine.give.Goals as goal
 

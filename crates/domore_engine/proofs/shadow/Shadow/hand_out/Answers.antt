@@ -1,11 +1,11 @@
-use Rattle.std.proofs.Common.{◌≡◌, ℕ, suc, ◌+◌, ◌*◌, ◌%◌, ◌<◌, ◌&&◌, ◌==◌, if◌then◌else◌, nat_lt, Bool, true, false, Option, Some, None, slice_index_or, ap, sym, ◌∙◌, subst}
+use Rattle.std.proofs.Common.{◌≡◌, ℕ, ◌+◌, ◌*◌, ◌%◌, ◌<◌, ◌&&◌, ◌==◌, if◌then◌else◌, Bool, true, false, Option, Some, None, slice_index_or, ap, sym, ◌∙◌, subst}
 use Rattle.std.proofs.lemmas.Bool.{lt-ltb}
 use Rattle.addr_slice.specs.Claims.{Claimed, has, words_of, no_claims, with_claims}
 use Rattle.first_tasks.specs.Form.{first_of, first_form}
 use Rattle.first_tasks.specs.Claims.{claims_in, claims_numbered, clashes}
 use Rattle.first_tasks.proofs.Forms.{first-kept}
 use Rattle.domore_engine.specs.declared.shadow.Shadow.{Shadow}
-use Rattle.domore_engine.specs.Shadows.{IsNoted, last_below, last_access, claims_word, noted_at}
+use Rattle.domore_engine.specs.Shadows.{IsNoted, last_below, last_access, claims_word}
 use Rattle.domore_engine.proofs.LastAccesses.{need-is, waits_same, words_claimed}
 use Rattle.domore_engine.proofs.shadow.Shadow.hand_out.Goals as goal
 

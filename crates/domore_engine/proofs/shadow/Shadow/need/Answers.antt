@@ -1,4 +1,4 @@
-use Rattle.std.proofs.Common.{◌≡◌, sym, ap, ◌∙◌, arith}
+use Rattle.std.proofs.Common.{sym, ap, ◌∙◌, arith}
 use Rattle.addr_slice.specs.Claims.{words_of}
 use Rattle.domore_engine.specs.Shadows.{later}
 use Rattle.domore_engine.proofs.Needing.{last_below-skips, last_below-next}

@@ -1,5 +1,5 @@
-use Rattle.std.proofs.Common.{◌≡◌, ◌<◌, ℕ, ◌+◌, ◌*◌, ◌%◌, if◌then◌else◌, Option, Some, List, set, Bool, refl, ap, ◌∙◌, subst, arith}
-use Rattle.addr_slice.specs.Claims.{Claimed, words_of, has}
+use Rattle.std.proofs.Common.{◌<◌, ◌+◌, ◌*◌, ◌%◌, if◌then◌else◌, Some, set, Bool, refl, ap, ◌∙◌, subst, arith}
+use Rattle.addr_slice.specs.Claims.{Claimed, words_of}
 use Rattle.domore_engine.proofs.Updating.{updated_next}
 use Rattle.domore_engine.proofs.shadow.Shadow.note.Goals as goal
 

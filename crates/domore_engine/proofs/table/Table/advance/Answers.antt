@@ -1,4 +1,4 @@
-use Rattle.std.proofs.Common.{◌≡◌, ◌<◌, ◌^◌, arith, ap, subst, ◌∙◌}
+use Rattle.std.proofs.Common.{◌≡◌, ◌<◌, arith, ap, subst, ◌∙◌}
 use Rattle.first_tasks.proofs.Forms.{first-kept}
 use Rattle.first_tasks.specs.Form.{first_form, first_of, count_of}
 use Rattle.first_tasks.specs.Positions.{IsInCourse}

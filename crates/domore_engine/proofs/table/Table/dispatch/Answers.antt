@@ -1,5 +1,4 @@
-use Rattle.std.proofs.Common.{◌≡◌, ◌<◌, ap, subst, arith}
-use Rattle.nest_syntax.specs.FirstForm.{First}
+use Rattle.std.proofs.Common.{ap, subst, arith}
 use Rattle.first_tasks.specs.declared.turns.Turns.{Turns as Told}
 use Rattle.first_tasks.specs.Form.{first_of, first_form}
 use Rattle.first_tasks.proofs.Forms.{first-kept}

@@ -1,6 +1,5 @@
-use Rattle.std.proofs.Common.{◌≡◌, Some, sym, ap, ◌∙◌}
+use Rattle.std.proofs.Common.{sym, ap, ◌∙◌}
 use Rattle.std.specs.Option.{option_map}
-use Rattle.domore_core.specs.Machine.{move_of}
 use Rattle.domore_core.proofs.Guards.{guarded}
 use Rattle.first_tasks.specs.Form.{first_form}
 use Rattle.first_tasks.specs.Setups.{setup}
