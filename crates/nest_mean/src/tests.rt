@@ -179,18 +179,22 @@ fn wrapping_edges(rt: HostRuntime) -> Result<(), Fail> {
     Ok(())
 }
 
-// A bound that reads what an item wrote.
-#[test]
-fn a_drain(rt: HostRuntime) -> Result<(), Fail> {
-    let alloc = rt.alloc();
+// `n[0] = 3`, and a loop to below `n[0]` with `a[i] = i + 1`
+fn draining(alloc: Global) -> Result<Program, AllocError> {
     let first = write(4, 0, Expr::Number(0), Op::Set, Expr::Number(3));
     let value = binary(alloc, Bin::Add, Expr::Scalar(3), Expr::Number(1))?;
     let body = one(alloc, write(6, 1, Expr::Scalar(3), Op::Set, value))?;
     let high = word(alloc, 0, Expr::Number(0))?;
     let items = two(alloc, first, Stmt::Loop(counted(5, 3, high, body)))?;
     let decls = two(alloc, array(1, 0, 1, false), array(2, 1, 4, false))?;
-    let nest = program(alloc, 4, decls, counted(3, 2, Expr::Number(1), items))?;
-    let ended = outcome_of(alloc, nest, Words::zeros(alloc, &[1, 4])?)?;
+    program(alloc, 4, decls, counted(3, 2, Expr::Number(1), items))
+}
+
+#[test]
+fn a_drain_reads_what_an_item_wrote(rt: HostRuntime) -> Result<(), Fail> {
+    let alloc = rt.alloc();
+    let words = Words::zeros(alloc, &[1, 4])?;
+    let ended = outcome_of(alloc, draining(alloc)?, words)?;
     expect_words(&rt, &ended, 0, &[3]);
     expect_words(&rt, &ended, 1, &[1, 2, 3, 0]);
     Ok(())
