@@ -22,3 +22,6 @@ mod ticket;
 mod wait;
 
 pub use domore::Domore;
+
+#[cfg(test)]
+mod tests;
