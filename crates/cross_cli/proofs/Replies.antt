@@ -1,18 +1,18 @@
 -- What makes an answer due.
-use Rattle.std.proofs.Common.{◌≡◌, ℕ, ◌+◌, ◌≤◌, ◌<◌, ◌≢◌, ℤ, List, codes, length, Option, Some, None, Result, Ok, Err, IfOk, MatchResult, refl, sym, subst, ◌∙◌, ap, arith}
-use Rattle.std.specs.Io.KnownBytes.{Keeps, Consumes, IsAtEnd}
+use Rattle.std.proofs.Common.{◌≡◌, ℕ, ◌+◌, ◌≤◌, List, codes, length, Option, Some, Result, Ok, Err, IfOk, MatchResult, refl, sym, subst, ◌∙◌, ap, arith}
+use Rattle.std.specs.Io.KnownBytes.{Consumes}
 use Rattle.nest_syntax.specs.declared.names.NoMemory.{NoMemory}
 use Rattle.nest_syntax.specs.declared.tree.Program.{Program}
 use Rattle.nest_io.specs.declared.transfer.TheConstants.{MOST_BYTES}
 use Rattle.nest_parse.specs.First.{IsFirst}
 use Rattle.nest_mean.specs.Nest.{Nest}
-use Rattle.word_store.specs.Memory.{Memory, zeros}
+use Rattle.word_store.specs.Memory.{zeros}
 use Rattle.nest_syntax.specs.Arrays.{arrays_of, sizes_of}
 use Rattle.cross_cli.specs.declared.status.Status.TheVariants as status
 use Rattle.cross_cli.specs.declared.top.Unanswered.{Unanswered}
 use Rattle.cross_cli.specs.declared.words.Action.{Action}
 use Rattle.cross_cli.specs.Answers.{Answer, refusal, acted, zeros_of, job_of, AnswersInput, too_long, no_text, a_text}
-use Rattle.cross_cli.specs.Ends.{TakesInput, IsDueTo}
+use Rattle.cross_cli.specs.Ends.{IsDueTo}
 
 -- an action on the job that was made of a program
 pub acted_by : (r : Result Answer NoMemory) (action : Action) (program : Program) (nest : Nest) → nest ≡ record { program = program; opening = zeros (sizes_of (arrays_of program.decls)) } → IfOk r (λ reply. reply ≡ acted action nest.program nest.opening.words) → IfOk r (λ reply. reply ≡ acted action program (zeros_of program))

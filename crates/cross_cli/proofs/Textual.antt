@@ -1,11 +1,11 @@
 -- What a finished engine tells is what is due: the outcome of textual order, and the facts of the nest.
-use Rattle.std.proofs.Common.{◌≡◌, ℕ, Bool, true, false, ◌++◌, ◌≤◌, ℤ, Result, Ok, Err, IfOk, length, ◌∷◌, List, [], Option, None, Some, refl, sym, subst, ap, ◌∙◌, arith, lit≤}
+use Rattle.std.proofs.Common.{◌≡◌, ℕ, true, ◌++◌, ◌≤◌, ℤ, Result, Ok, Err, IfOk, length, ◌∷◌, List, [], Option, None, Some, refl, sym, subst, ap, ◌∙◌, arith}
 use Rattle.std.specs.Option.{option_map_or}
 use Rattle.std.proofs.lemmas.Bool.{cond-true}
 use Rattle.nest_syntax.specs.declared.place.Place.{Place}
 use Rattle.nest_syntax.specs.declared.tree.Program.{Program}
 use Rattle.nest_syntax.specs.FirstForm.{IsFirstForm}
-use Rattle.nest_syntax.specs.Outcome.{Ending, Done, TrappedAt, ending}
+use Rattle.nest_syntax.specs.Outcome.{Done, TrappedAt, ending}
 use Rattle.nest_mean.specs.Nest.{Nest}
 use Rattle.settle_law.specs.Courses as courses
 use Rattle.domore_core.specs.Machine as machine
@@ -14,7 +14,6 @@ use Rattle.domore_core.specs.Runs as runs
 use Rattle.domore_core.specs.Theorems.{IsSetupFor, Leads, Completes}
 use Rattle.domore_core.proofs.Runs.{ends_as, counts_as}
 use Rattle.progress_board.specs.declared.facts.Ending.TheVariants as ends
-use Rattle.progress_board.specs.Options.{IsInRange}
 use Rattle.progress_board.specs.Runs.{run, Agrees}
 use Rattle.first_tasks.specs.declared.position.Iteration.{Iteration}
 use Rattle.first_tasks.specs.declared.position.Position.{Position}
@@ -23,9 +22,8 @@ use Rattle.first_tasks.specs.Iterations.{cut_turn}
 use Rattle.first_tasks.specs.Pieces.{Piece}
 use Rattle.first_tasks.proofs.Forms.{form_of, own_form}
 use Rattle.first_tasks.proofs.Setups.{right}
-use Rattle.domore_engine.specs.Engine.{Engine, Table, measure, setup_of, nest_in, program_in, opening, step, is_finished, ending_of, ending_at}
-use Rattle.domore_engine.specs.Laws.{IsLed, led}
-use Rattle.domore_engine.specs.Reports.{report_of}
+use Rattle.domore_engine.specs.Engine.{Engine, Table, measure, setup_of, nest_in, program_in, opening, step, is_finished, ending_at}
+use Rattle.domore_engine.specs.Laws.{led}
 use Rattle.nest_syntax.specs.Arrays.{arrays_of}
 use Rattle.nest_syntax.specs.declared.tree.Decl.{Decl}
 use Rattle.nest_syntax.specs.declared.tree.Decl.TheVariants as decl
@@ -33,7 +31,7 @@ use Rattle.nest_syntax.specs.declared.names.NoMemory.{NoMemory}
 use Rattle.progress_board.specs.declared.options.Options.{Options}
 use Rattle.progress_board.specs.Actors.{actors_of}
 use Rattle.progress_board.specs.Rotation.{rotation}
-use Rattle.cross_cli.specs.Answers.{Answer, alone_options, facts_due, rotation_of, reported, job_of}
+use Rattle.cross_cli.specs.Answers.{Answer, alone_options, rotation_of, reported, job_of}
 use Rattle.cross_cli.specs.Told.{told, told_at}
 
 setup_right : (job : Nest) → IsSetupFor (setup_of job alone_options) (nest_in job) (cut_turn (program_in job)) Region

@@ -1,5 +1,5 @@
 -- The command words.
-use Rattle.std.specs.Prelude.{ℕ, Bool, Option, Some, None, List, [], ◌∷◌, codes, if◌then◌else◌}
+use Rattle.std.specs.Prelude.{ℕ, Option, Some, None, List, [], ◌∷◌, codes, if◌then◌else◌}
 use Rattle.std.specs.Str.{bytes_eq}
 use Rattle.cross_cli.specs.declared.words.Action.{Action}
 use Rattle.cross_cli.specs.declared.words.Action.TheVariants.{Plain, Alone}
