@@ -22,6 +22,21 @@ for (long t = 0; t < 1; t++) {
 }
 ";
 
+/// What `alone` prints of `FIRST`.
+const REPORTED: &str = "a 13 14 26 26
+engine domore workers 2
+invocations 2
+iterations 8
+drains 0
+waits 6 crossing 2
+wait 2 on 1
+wait 3 on 0
+wait 4 on 3 crossing
+wait 5 on 2 crossing
+wait 6 on 5
+wait 7 on 4
+";
+
 /// What a call leaves: its status and what it wrote.
 #[derive(Drop)]
 struct Written {
@@ -77,6 +92,23 @@ fn words_and_texts_have_their_answers(rt: HostRuntime) -> Result<(), Fail> {
         let none = (Vec::new(alloc), Vec::new(alloc));
         let run = run(alloc, word, input, (1000, 1000), none)?;
         check(&rt, &run, status, written);
+    }
+    Ok(())
+}
+
+#[test]
+fn alone_tells_the_waits(rt: HostRuntime) -> Result<(), Fail> {
+    let alloc = rt.alloc();
+    let cases = [
+        (FIRST, Status::Done, REPORTED),
+        (OUTSIDE, Status::Trapped, "trap index line 4 iteration 2\n"),
+    ];
+    for (input, status, written) in cases {
+        let none = (Vec::new(alloc), Vec::new(alloc));
+        let run = run(alloc, "alone", input, (1000, 1000), none)?;
+        assert_eq!(rt; run.ended.status, status);
+        assert_eq!(rt; run.sink.bytes(), written.as_bytes());
+        assert!(rt; run.ended.history.len() > 0);
     }
     Ok(())
 }
