@@ -65,28 +65,28 @@ abbrev pub read_in : Line → Level → Scope → Expr → List Occurrence
 read_in line level scope = fold-Expr (List Occurrence) (read_node line level scope)
 
 -- what a statement gives in a scope: its occurrences, and the scope behind it
-pub record Passage : Type 0 where
+pub record Walked : Type 0 where
   pub occurrences : List Occurrence
   pub behind : Scope
 
-abbrev pub Passing : Type 0
-Passing = Level → Scope → Passage
+abbrev pub Walk : Type 0
+Walk = Level → Scope → Walked
 
 -- an arm and a loop leave the scope as it was
-abbrev pub Within : Type 0
-Within = Level → Scope → List Occurrence
+abbrev pub Listing : Type 0
+Listing = Level → Scope → List Occurrence
 
 -- the statements of a block, each in the scope behind the one before
-abbrev pub block : List Passing → Within
+abbrev pub block : List Walk → Listing
 block [] level scope = []
 block (stmt ∷ stmts) level scope = (stmt level scope).occurrences ++ block stmts level (stmt level scope).behind
 
 -- arms, or regions, each in the same scope
-abbrev pub side_by_side : List Within → Within
-side_by_side [] level scope = []
-side_by_side (part ∷ parts) level scope = part level scope ++ side_by_side parts level scope
+abbrev pub in_same_scope : List Listing → Listing
+in_same_scope [] level scope = []
+in_same_scope (part ∷ parts) level scope = part level scope ++ in_same_scope parts level scope
 
-abbrev pub stmt_node : Stmt-F Passing Within Within → Passing
+abbrev pub stmt_node : Stmt-F Walk Listing Listing → Walk
 stmt_node (Stmt-F.Declare line name value) level scope = record {
   occurrences = occurrence line level action.Declared (bound scope name) ∷ read_in line level scope value;
   behind = with_bound scope name (declared_at level);
@@ -99,26 +99,26 @@ stmt_node (Stmt-F.Write line array place op value) level scope = record {
   occurrences = occurrence line level action.WordWritten (bound scope array) ∷ (read_in line level scope place ++ read_in line level scope value);
   behind = scope;
 }
-stmt_node (Stmt-F.If arms other) level scope = record { occurrences = side_by_side arms level scope ++ block other level scope; behind = scope }
+stmt_node (Stmt-F.If arms other) level scope = record { occurrences = in_same_scope arms level scope ++ block other level scope; behind = scope }
 stmt_node (Stmt-F.Loop inside) level scope = record { occurrences = inside level scope; behind = scope }
 
-abbrev pub arm_node : Arm-F Passing Within Within → Within
+abbrev pub arm_node : Arm-F Walk Listing Listing → Listing
 arm_node arm level scope = read_in arm.line level scope arm.test ++ block arm.body level scope
 
-abbrev pub loop_node : Loop-F Passing Within Within → Within
+abbrev pub loop_node : Loop-F Walk Listing Listing → Listing
 loop_node l level scope = let inside = with_bound scope l.name (variable_at level) in
     occurrence l.line level action.Declared (bound scope l.name) ∷ (read_in l.line level scope l.low ++ (read_in l.line level inside l.high ++ block l.body (inner level) inside))
 
-abbrev pub in_stmt : Stmt → Passing
-in_stmt = fold-Stmt Passing Within Within stmt_node arm_node loop_node
+abbrev pub in_stmt : Stmt → Walk
+in_stmt = fold-Stmt Walk Listing Listing stmt_node arm_node loop_node
 
-abbrev pub in_arm : Arm → Within
-in_arm = fold-Arm Passing Within Within stmt_node arm_node loop_node
+abbrev pub in_arm : Arm → Listing
+in_arm = fold-Arm Walk Listing Listing stmt_node arm_node loop_node
 
-abbrev pub in_loop : Loop → Within
-in_loop = fold-Loop Passing Within Within stmt_node arm_node loop_node
+abbrev pub in_loop : Loop → Listing
+in_loop = fold-Loop Walk Listing Listing stmt_node arm_node loop_node
 
-abbrev pub in_block : List Stmt → Within
+abbrev pub in_block : List Stmt → Listing
 in_block stmts = block (map in_stmt stmts)
 
 abbrev pub array_binding : Bool → Binding
@@ -126,7 +126,7 @@ array_binding true = binding.ConstArray
 array_binding false = binding.Array
 
 -- what a declaration before the regions gives in a scope
-abbrev pub in_decl : Decl → Passing
+abbrev pub in_decl : Decl → Walk
 in_decl (decl.Array line name length fixed) level scope = record {
   occurrences = occurrence line level action.Declared (bound scope name) ∷ [];
   behind = with_bound scope name (array_binding fixed);
@@ -149,7 +149,7 @@ abbrev pub in_decls : List Decl → Scope → List Occurrence
 in_decls decls scope = block (map in_decl decls) level.Outside scope
 
 abbrev pub in_regions : List Loop → Scope → List Occurrence
-in_regions regions scope = side_by_side (map in_loop regions) level.Outside scope
+in_regions regions scope = in_same_scope (map in_loop regions) level.Outside scope
 
 -- the occurrences of a program: its declarations, and its regions in the scope behind them
 abbrev pub occurrences_of : Program → List Occurrence

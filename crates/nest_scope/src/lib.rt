@@ -5,6 +5,10 @@
 //! `specs/Rules.antt` says of each rule which of these places break it.
 #![tactic(auto)]
 
+mod breaches;
 mod occurrences;
+mod scopes;
+mod walk;
 
-pub use occurrences::{Action, Binding, Level, Occurrence};
+pub use breaches::ScopeBreaches;
+pub use walk::scope_breaches;
