@@ -12,3 +12,6 @@ mod walk;
 
 pub use breaches::ScopeBreaches;
 pub use walk::scope_breaches;
+
+#[cfg(test)]
+mod tests;
