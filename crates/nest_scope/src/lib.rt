@@ -12,6 +12,3 @@ mod walk;
 
 pub use breaches::ScopeBreaches;
 pub use walk::scope_breaches;
-
-#[cfg(test)]
-mod tests;

@@ -1,6 +1,6 @@
-use crate::scope_breaches;
 use nest_lex::lex;
 use nest_parse::parse;
+use nest_scope::scope_breaches;
 use nest_syntax::Line;
 use std::alloc::{AllocError, Global};
 use std::process::Abort;
