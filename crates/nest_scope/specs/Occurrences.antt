@@ -1,6 +1,7 @@
 -- The occurrences of names in a program, in the order of its text: what is done with a name where it stands, and what it
 -- is bound to there. Each arm, each last `else` block and each body of a loop is a scope of its own. The scope of a
--- declared name begins behind the value of its declaration, the scope of a loop's variable behind the low bound.
+-- declared name begins behind the value of its declaration, the scope of a loop's variable behind the low bound. Where a
+-- name is declared again, the later declaration counts, until its block ends.
 use Rattle.std.specs.Prelude.{ℕ, Bool, true, false, List, [], ◌∷◌, ◌++◌, map, length, replicate, slice_index_or, slice_set}
 use Rattle.nest_syntax.specs.declared.names.Line.{Line}
 use Rattle.nest_syntax.specs.declared.tree.Expr.{Expr, fold-Expr}
@@ -25,9 +26,11 @@ use Rattle.nest_scope.specs.declared.occurrences.Occurrence.{Occurrence}
 abbrev pub Scope : Type 0
 Scope = List Binding
 
+-- what a name is bound to
 abbrev pub bound : Scope → ℕ → Binding
 bound scope name = slice_index_or scope name binding.Unbound
 
+-- the scope with a name bound anew
 abbrev pub with_bound : Scope → ℕ → Binding → Scope
 with_bound scope name to = slice_set scope name to
 
@@ -49,6 +52,7 @@ variable_at level.Outside = binding.RegionVariable
 variable_at level.Items = binding.LoopVariable
 variable_at level.Body = binding.LoopVariable
 
+-- a name on a line, at a level: what is done with it, and what it is bound to
 abbrev pub occurrence : Line → Level → Action → Binding → Occurrence
 occurrence line level does to = record { line = line; level = level; action = does; binding = to }
 
@@ -61,6 +65,7 @@ read_node line level scope (Expr-F.Unary op part) = part
 read_node line level scope (Expr-F.Binary op left right) = left ++ right
 read_node line level scope (Expr-F.Choice test first second) = test ++ (first ++ second)
 
+-- the names that an expression reads, each with what it is bound to in the scope
 abbrev pub read_in : Line → Level → Scope → Expr → List Occurrence
 read_in line level scope = fold-Expr (List Occurrence) (read_node line level scope)
 
@@ -69,10 +74,11 @@ pub record Walked : Type 0 where
   pub occurrences : List Occurrence
   pub behind : Scope
 
+-- what it gives, by its level and the scope before it
 abbrev pub Walk : Type 0
 Walk = Level → Scope → Walked
 
--- an arm and a loop leave the scope as it was
+-- the occurrences of an arm or a loop, which leave the scope as it was
 abbrev pub Listing : Type 0
 Listing = Level → Scope → List Occurrence
 
@@ -86,6 +92,7 @@ abbrev pub in_same_scope : List Listing → Listing
 in_same_scope [] level scope = []
 in_same_scope (part ∷ parts) level scope = part level scope ++ in_same_scope parts level scope
 
+-- one layer of a statement, with what its parts give in their places: a declaration binds its name behind its value
 abbrev pub stmt_node : Stmt-F Walk Listing Listing → Walk
 stmt_node (Stmt-F.Declare line name value) level scope = record {
   occurrences = occurrence line level action.Declared (bound scope name) ∷ read_in line level scope value;
@@ -102,13 +109,16 @@ stmt_node (Stmt-F.Write line array place op value) level scope = record {
 stmt_node (Stmt-F.If arms other) level scope = record { occurrences = in_same_scope arms level scope ++ block other level scope; behind = scope }
 stmt_node (Stmt-F.Loop inside) level scope = record { occurrences = inside level scope; behind = scope }
 
+-- one layer of an arm: its test, and its block in a scope of its own
 abbrev pub arm_node : Arm-F Walk Listing Listing → Listing
 arm_node arm level scope = read_in arm.line level scope arm.test ++ block arm.body level scope
 
+-- one layer of a loop: its variable is in scope in the high bound and in the block, and not in the low bound
 abbrev pub loop_node : Loop-F Walk Listing Listing → Listing
 loop_node l level scope = let inside = with_bound scope l.name (variable_at level) in
     occurrence l.line level action.Declared (bound scope l.name) ∷ (read_in l.line level scope l.low ++ (read_in l.line level inside l.high ++ block l.body (inner level) inside))
 
+-- what a statement gives, and the occurrences of an arm, a loop and a block
 abbrev pub in_stmt : Stmt → Walk
 in_stmt = fold-Stmt Walk Listing Listing stmt_node arm_node loop_node
 
@@ -121,6 +131,7 @@ in_loop = fold-Loop Walk Listing Listing stmt_node arm_node loop_node
 abbrev pub in_block : List Stmt → Listing
 in_block stmts = block (map in_stmt stmts)
 
+-- what the declaration of an array binds its name to
 abbrev pub array_binding : Bool → Binding
 array_binding true = binding.ConstArray
 array_binding false = binding.Array
@@ -145,6 +156,7 @@ behind_decls (d ∷ decls) scope = behind_decls decls (in_decl d level.Outside s
 abbrev pub unbound : ℕ → Scope
 unbound names = replicate names binding.Unbound
 
+-- the occurrences of the declarations before the regions, and of the regions
 abbrev pub in_decls : List Decl → Scope → List Occurrence
 in_decls decls scope = block (map in_decl decls) level.Outside scope
 

@@ -18,6 +18,7 @@ is_redeclared action.Declared binding.Unbound = false
 is_redeclared action.Declared to = true
 is_redeclared does to = false
 
+-- whether a name is bound to no scalar, and whether to no array
 abbrev pub is_no_scalar : Binding → Bool
 is_no_scalar binding.Unbound = true
 is_no_scalar binding.Array = true
@@ -58,6 +59,7 @@ is_scheduler_scalar_assigned at does to = false
 abbrev pub lines_where : (Occurrence → Bool) → List Occurrence → List Line
 lines_where breaks occurrences = map (λ (o : Occurrence). o.line) (filter breaks occurrences)
 
+-- the same of an occurrence
 abbrev pub redeclares : Occurrence → Bool
 redeclares o = is_redeclared o.action o.binding
 

@@ -13,7 +13,8 @@ use crate::scopes::{Scope, Shadowed};
 use nest_syntax::{Arm, Decl, Expr, Line, Loop, NoMemory, Program, Stmt};
 use std::alloc::Global;
 
-/// The lowest line that breaks each of the rules on names, found in one walk over the program.
+/// The lowest line that breaks each of the rules on names, found in one walk over the program: its time grows with the
+/// size of the program, whatever its names. Each rule is judged by itself, also where another one is broken.
 pub fn scope_breaches(alloc: Global, program: &Program) -> Result<ScopeBreaches, NoMemory>
     requires { IsWellNamed program.now }
     ensures redeclared { IfOk result (λ found. found.redeclared ≡ lowest (lines_redeclared program.now)) }
