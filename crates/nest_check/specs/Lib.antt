@@ -5,3 +5,4 @@ pub mod Parts
 pub mod Rules
 pub mod Kept
 pub mod Tables
+pub mod Noted

@@ -8,7 +8,7 @@ use Rattle.nest_syntax.specs.declared.tree.Program.{Program}
 use Rattle.nest_check.specs.Joined.{joined}
 use Rattle.nest_check.specs.Declarations.{Declaration, first_of_each, lines_of}
 use Rattle.nest_check.specs.Entries.{items_of, statements_of, declarations_in, invocations_in, scheduler_scalars}
-use Rattle.nest_check.specs.Parts.{Part, ALoop, AnExpression, depth, parts_in_loop}
+use Rattle.nest_check.specs.Parts.{Part, ALoop, AnExpression, depth, all_at, parts_in_loop}
 
 -- the first behind so many lines, where there are more
 abbrev pub first_behind : ℕ → List Line → List Line
@@ -60,7 +60,7 @@ lines_where test (part ∷ parts) = if test part then part_line part ∷ lines_w
 
 -- the loops and expressions of a program; loops may have four levels
 abbrev pub parts_of : Program → List Part
-parts_of program = joined (map (λ region. parts_in_loop region 4) program.regions)
+parts_of program = all_at (map parts_in_loop program.regions) 4
 
 abbrev pub has_wrong_step : Part → Bool
 has_wrong_step (ALoop line step levels) = is_outside 65536 step

@@ -4,6 +4,12 @@
 //! and the lowest line that breaks it.
 #![tactic(auto)]
 
+mod arrays;
 mod checked;
+mod entries;
+mod expressions;
+mod first_names;
+mod items;
+mod parts;
 
 pub use checked::Checked;

@@ -1,0 +1,5 @@
+pub mod Lists
+pub mod Lines
+pub mod PartNodes
+pub mod EntryNodes
+pub mod Room
