@@ -1,0 +1,5 @@
+pub mod Restored
+pub mod Lowest
+pub mod Equations
+pub mod Nodes
+pub mod Steps

@@ -1,0 +1,4 @@
+pub mod Occurrences
+pub mod Rules
+pub mod Restored
+pub mod Noted
