@@ -1,17 +1,16 @@
 -- The lowest lines over the declarations that are left.
-use Rattle.std.proofs.Common.{◌≡◌, ◌≢◌, ℕ, zero, suc, ◌+◌, ◌-◌, ◌<◌, ◌≤◌, Bool, true, false, if◌then◌else◌, Option, None, List, [], ◌∷◌, ◌++◌, length, take, drop, get_or, refl, sym, ap, ◌∙◌, arith, add-one, drop-cons}
-use Rattle.std.proofs.lemmas.List.{drop_all}
+use Rattle.std.proofs.Common.{◌≡◌, ◌≢◌, ℕ, zero, suc, ◌+◌, ◌-◌, ◌<◌, ◌≤◌, Bool, true, false, if◌then◌else◌, Option, None, List, [], ◌∷◌, ◌++◌, map, length, take, drop, get_or, refl, sym, ap, ◌∙◌, arith, add-one, drop-cons}
+use Rattle.std.proofs.lemmas.List.{drop_all, drop-map}
 use Rattle.nest_syntax.specs.declared.names.Line.{Line}
 use Rattle.nest_syntax.specs.declared.tree.Decl.{Decl}
 use Rattle.nest_syntax.specs.declared.tree.Decl.TheVariants as decl
-use Rattle.nest_syntax.specs.declared.tree.Loop.{Loop}
 use Rattle.lowest_line.specs.Lowest.{lower, lower_of}
 use Rattle.lowest_line.proofs.Lists.{lower_of-append}
 use Rattle.nest_check.specs.declared.parts.Breaches.{Breaches}
 use Rattle.nest_check.specs.Joined.{through}
 use Rattle.nest_check.specs.Parts.{Part}
 use Rattle.nest_check.specs.Noted.{noted, noted_if}
-use Rattle.nest_check.specs.Rules.{part_line, lines_where, has_wrong_step, has_no_level, is_deep, first_behind, array_lines, region_lines}
+use Rattle.nest_check.specs.Rules.{part_line, lines_where, has_wrong_step, has_no_level, is_deep, first_behind, array_lines}
 
 -- what is left, where the declaration at a place is known
 pub array_left : {B : Type 0} (f : List Decl → B) (decls : List Decl) (i : ℕ) (none : Decl) (line : Line) (name size : ℕ) (fixed : Bool) → i < length decls → get_or decls i none ≡ decl.Array line name size fixed → f (drop i decls) ≡ f (decl.Array line name size fixed ∷ drop (i + 1) decls)
@@ -41,19 +40,15 @@ pub scalar_passes : (found whole : Option Line) (decls : List Decl) (i : ℕ) (n
 scalar_passes found whole decls i none line name value left left' there is same before =
     ap (λ k. lower_of found (first_behind k (array_lines (drop (i + 1) decls)))) same ∙ sym (scalar_left (λ ds. lower_of found (first_behind left (array_lines ds))) decls i none line name value there is) ∙ before
 
-lines_left : (n : ℕ) (regions : List Loop) → drop n (region_lines regions) ≡ region_lines (drop n regions)
-lines_left zero regions = refl
-lines_left (suc n) [] = refl
-lines_left (suc n) (l ∷ regions) = lines_left n regions
-
-pub region_noted_at : (found found' : Option Line) (regions : List Loop) (many : ℕ) (none : Loop) → many < length regions → none ≡ get_or regions many none → found' ≡ lower found (get_or regions many none).line → found' ≡ lower_of found (first_behind many (region_lines regions))
-region_noted_at found found' regions many none there is after =
+-- the item behind so many others
+pub noted_at : {A : Type 0} (line : A → Line) (found found' : Option Line) (xs : List A) (many : ℕ) (none : A) → many < length xs → found' ≡ lower found (line (get_or xs many none)) → found' ≡ lower_of found (first_behind many (map line xs))
+noted_at line found found' xs many none there after =
     after
-    ∙ ap (λ rs. lower_of found (take 1 (region_lines rs))) (sym (drop-cons regions many none there))
-    ∙ ap (λ lines. lower_of found (take 1 lines)) (sym (lines_left many regions))
+    ∙ ap (λ ys. lower_of found (take 1 (map line ys))) (sym (drop-cons xs many none there))
+    ∙ ap (λ lines. lower_of found (take 1 lines)) (sym (drop-map line many xs))
 
-pub no_region : (found : Option Line) (regions : List Loop) (many : ℕ) → length regions ≤ many → found ≡ lower_of found (first_behind many (region_lines regions))
-no_region found regions many over = ap (λ rs. lower_of found (take 1 (region_lines rs))) (sym (drop_all many regions over)) ∙ ap (λ lines. lower_of found (take 1 lines)) (sym (lines_left many regions))
+pub none_noted : {A : Type 0} (line : A → Line) (found : Option Line) (xs : List A) (many : ℕ) → length xs ≤ many → found ≡ lower_of found (first_behind many (map line xs))
+none_noted line found xs many over = ap (λ ys. lower_of found (take 1 (map line ys))) (sym (drop_all many xs over)) ∙ ap (λ lines. lower_of found (take 1 lines)) (sym (drop-map line many xs))
 
 pub lowest_of_two : (result first second third : Option Line) (xs ys : List Line) → first ≡ None → second ≡ lower_of first xs → third ≡ lower_of second ys → result ≡ third → result ≡ lower_of None (xs ++ ys)
 lowest_of_two result first second third xs ys begins one two ends = ends ∙ two ∙ ap (λ f. lower_of f ys) (one ∙ ap (λ f. lower_of f xs) begins) ∙ sym (lower_of-append None xs ys)

@@ -6,3 +6,5 @@ pub mod Rules
 pub mod Kept
 pub mod Tables
 pub mod Noted
+pub mod Broken
+pub mod Answered

@@ -1,10 +1,14 @@
-ghost use Rattle.std.specs.Prelude.{◌≡◌};
+ghost use Rattle.std.specs.Prelude.{◌≡◌, IfOk};
 ghost use Rattle.nest_syntax.specs.Named.{IsWellNamed};
 ghost use Rattle.nest_syntax.specs.Arrays.{arrays_of, sizes_of, array_of};
+ghost use Rattle.nest_check.specs.Declarations.{first_of_each};
+ghost use Rattle.nest_check.specs.Entries.{scheduler_scalars};
 ghost use Rattle.nest_check.specs.Kept.{KeepsRules};
 ghost use Rattle.nest_check.specs.Tables.{scalar_of};
 
-use nest_syntax::Program;
+use crate::tables::{array_names, declared_names, lengths_of, place_table};
+use nest_syntax::{Line, NoMemory, Program};
+use std::alloc::Global;
 use std::marker::Model;
 
 /// A program that keeps the rules. Names are looked up in constant time.
@@ -36,6 +40,30 @@ impl Model for Checked {
 }
 
 impl Checked {
+    /// A program that keeps the rules, with its tables. The scheduler scalars are the first declarations of each.
+    pub(crate) fn tabled(
+        alloc: Global,
+        program: Program,
+        scalars: &[(u32, Line)],
+    ) -> Result<Checked, NoMemory>
+        requires named { IsWellNamed program }
+        requires keeps { KeepsRules program }
+        requires scalars { scalars.now ≡ first_of_each (scheduler_scalars program) }
+        ensures { IfOk result (λ checked. checked ≡ program) }
+    {
+        let lengths = lengths_of(alloc, program.decls.as_slice())?;
+        let array_names = array_names(alloc, program.decls.as_slice())?;
+        let arrays = place_table(alloc, array_names.as_slice())?;
+        let scalar_names = declared_names(alloc, scalars)?;
+        let scalars = place_table(alloc, scalar_names.as_slice())?;
+        Ok(Checked {
+            program,
+            lengths,
+            arrays,
+            scalars,
+        })
+    }
+
     /// The program, as it was handed in.
     pub fn program(&self) -> &Program
         ensures same { result.now ≡ self.now }

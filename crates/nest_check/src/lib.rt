@@ -6,10 +6,16 @@
 
 mod arrays;
 mod checked;
+mod checking;
 mod entries;
 mod expressions;
 mod first_names;
 mod items;
+mod judge;
 mod parts;
+mod refused;
+mod tables;
 
 pub use checked::Checked;
+pub use checking::check;
+pub use refused::CheckRefused;
