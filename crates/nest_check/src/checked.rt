@@ -6,6 +6,7 @@ ghost use Rattle.nest_check.specs.Entries.{scheduler_scalars};
 ghost use Rattle.nest_check.specs.Kept.{KeepsRules};
 ghost use Rattle.nest_check.specs.Tables.{scalar_of};
 
+use crate::copies::copy_program;
 use crate::tables::{array_names, declared_names, lengths_of, place_table};
 use nest_syntax::{Line, NoMemory, Program};
 use std::alloc::Global;
@@ -61,6 +62,18 @@ impl Checked {
             lengths,
             arrays,
             scalars,
+        })
+    }
+
+    /// An equal value.
+    pub fn copy(&self, alloc: Global) -> Result<Checked, NoMemory>
+        ensures { IfOk result (λ copied. copied ≡ self.now) }
+    {
+        Ok(Checked {
+            program: copy_program(alloc, &self.program)?,
+            lengths: Vec::from_slice(alloc, self.lengths.as_slice())?,
+            arrays: Vec::from_slice(alloc, self.arrays.as_slice())?,
+            scalars: Vec::from_slice(alloc, self.scalars.as_slice())?,
         })
     }
 

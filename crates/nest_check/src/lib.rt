@@ -7,6 +7,7 @@
 mod arrays;
 mod checked;
 mod checking;
+mod copies;
 mod entries;
 mod expressions;
 mod first_names;
