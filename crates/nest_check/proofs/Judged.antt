@@ -3,13 +3,14 @@ use Rattle.std.proofs.Common.{◌≡◌, ℕ, zero, suc, ◌≤◌, if◌then◌
 use Rattle.std.proofs.lemmas.List.{take_all}
 use Rattle.nest_syntax.specs.declared.names.Line.{Line}
 use Rattle.nest_syntax.specs.declared.tree.Program.{Program}
+use Rattle.nest_syntax.specs.declared.tree.Loop.{Loop}
 use Rattle.nest_syntax.specs.declared.tree.Decl.{Decl}
 use Rattle.nest_syntax.specs.declared.tree.Decl.TheVariants as decl
 use Rattle.lowest_line.proofs.Lists.{lower_of-append}
 use Rattle.lowest_line.specs.Lowest.{lower_of, lowest}
 use Rattle.nest_check.specs.Declarations.{Declaration, first_of_each, lines_of, names_of}
 use Rattle.nest_check.specs.Entries.{scheduler_scalars}
-use Rattle.nest_check.specs.Rules.{first_behind, array_lines, lines_where, is_deep, parts_of, deep_expressions}
+use Rattle.nest_check.specs.Rules.{first_behind, array_lines, region_lines, lines_where, is_deep, parts_of, deep_expressions}
 use Rattle.nest_check.specs.Kept.{KeepsRules}
 use Rattle.nest_check.specs.Broken.{Judged, first_broken, broken}
 use Rattle.nest_check.specs.Tables.{array_names}
@@ -26,11 +27,11 @@ first_kept : (rule : ℕ) (o : Option Line) (rules : List Judged) → first_brok
 first_kept rule None rules e = (refl, e)
 first_kept rule (Some line) rules e = absurd (cc)
 
-nil_left : {A : Type 0} (xs ys : List A) → xs ++ ys ≡ [] → xs ≡ []
+pub nil_left : {A : Type 0} (xs ys : List A) → xs ++ ys ≡ [] → xs ≡ []
 nil_left [] ys e = refl
 nil_left (x ∷ xs) ys e = absurd (cc)
 
-nil_right : {A : Type 0} (xs ys : List A) → xs ++ ys ≡ [] → ys ≡ []
+pub nil_right : {A : Type 0} (xs ys : List A) → xs ++ ys ≡ [] → ys ≡ []
 nil_right [] ys e = e
 nil_right (x ∷ xs) ys e = absurd (cc)
 
@@ -75,6 +76,19 @@ as_many_arrays (decl.Scalar line name value ∷ decls) = as_many_arrays decls
 
 pub few_arrays : (program : Program) → KeepsRules program → length (array_names program.decls) ≤ 64
 few_arrays program kept = let few = few_behind 64 (array_lines program.decls) (nil_left _ _ kept.few) in omega (arith, few, as_many_arrays program.decls)
+
+pub few_array_lines : (program : Program) → KeepsRules program → length (array_lines program.decls) ≤ 64
+few_array_lines program kept = few_behind 64 (array_lines program.decls) (nil_left _ _ kept.few)
+
+as_many_regions : (regions : List Loop) → length (region_lines regions) ≡ length regions
+as_many_regions [] = refl
+as_many_regions (l ∷ regions) = ap suc (as_many_regions regions)
+
+pub few_regions : (program : Program) → KeepsRules program → length program.regions ≤ 64
+few_regions program kept =
+    let few : length (region_lines program.regions) ≤ 64 = few_behind 64 (region_lines program.regions) (nil_right (first_behind 64 (array_lines program.decls)) _ kept.few) in
+    let many = as_many_regions program.regions in
+    omega (arith, few, many)
 
 as_many_lines : (ds : List Declaration) → length (lines_of ds) ≡ length ds
 as_many_lines [] = refl

@@ -5,3 +5,5 @@ pub mod EntryNodes
 pub mod Room
 pub mod Places
 pub mod Judged
+pub mod Bodies
+pub mod Few
