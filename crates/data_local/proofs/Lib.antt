@@ -1,0 +1,4 @@
+pub mod Parts
+pub mod Scans
+pub mod Walks
+pub mod Graphs
