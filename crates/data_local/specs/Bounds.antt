@@ -2,12 +2,13 @@
 use Rattle.std.specs.Prelude.{◌≡◌, ℕ, ◌≤◌, Bool, false, ◌||◌, ◌⊎◌, Option, MatchOption, List, map, filter}
 use Rattle.std.specs.List.{list_any}
 use Rattle.nest_syntax.specs.declared.names.Line.{Line}
+use Rattle.nest_syntax.specs.declared.tree.Arm.{Arm}
 use Rattle.nest_syntax.specs.declared.tree.Loop.{Loop}
 use Rattle.nest_syntax.specs.declared.tree.Stmt.{Stmt}
 use Rattle.nest_syntax.specs.declared.tree.Stmt.TheOpen.{Stmt-F, Arm-F, Loop-F}
-use Rattle.nest_syntax.specs.declared.tree.Stmt.TheFolds.{fold-Stmt}
+use Rattle.nest_syntax.specs.declared.tree.Stmt.TheFolds.{fold-Stmt, fold-Arm, fold-Loop}
 use Rattle.nest_syntax.specs.declared.tree.Program.{Program}
-use Rattle.nest_syntax.specs.Arrays.{arrays_of}
+use Rattle.nest_syntax.specs.Arrays.{Array, arrays_of}
 use Rattle.data_local.specs.Names.{scalars_in, arrays_in, is_among}
 use Rattle.data_local.specs.DataLocals.{IsOne, IsData}
 use Rattle.data_local.specs.Loops.{loops_in, loops_of, invocations}
@@ -30,6 +31,15 @@ changes_loop_node l = list_any (λ s. s) l.body
 abbrev pub changes : List ℕ → List ℕ → Stmt → Bool
 changes scalars arrays = fold-Stmt Bool Bool Bool (changes_node scalars arrays) changes_arm_node changes_loop_node
 
+abbrev pub changes_in_arm : List ℕ → List ℕ → Arm → Bool
+changes_in_arm scalars arrays = fold-Arm Bool Bool Bool (changes_node scalars arrays) changes_arm_node changes_loop_node
+
+abbrev pub changes_in_loop : List ℕ → List ℕ → Loop → Bool
+changes_in_loop scalars arrays = fold-Loop Bool Bool Bool (changes_node scalars arrays) changes_arm_node changes_loop_node
+
+abbrev pub changes_one_in_arms : List ℕ → List ℕ → List Arm → Bool
+changes_one_in_arms scalars arrays arms = list_any (λ a. a) (map (changes_in_arm scalars arrays) arms)
+
 abbrev pub changes_one : List ℕ → List ℕ → List Stmt → Bool
 changes_one scalars arrays stmts = list_any (λ s. s) (map (changes scalars arrays) stmts)
 
@@ -41,12 +51,13 @@ changes_its_bound l = is_among (scalars_in l.high) l.name || changes_one (scalar
 abbrev pub lines_of_changed_bounds : Program → List Line
 lines_of_changed_bounds program = map (λ (l : Loop). l.line) (filter changes_its_bound (loops_of program))
 
--- Whether a line is that of a loop inside a body of which a bound is a data expression: the bounds of such loops must be
--- known from scalars and `const` arrays.
+-- Whether a line is that of a loop inside a body of which a bound is a data expression.
+abbrev pub HasDataBoundIn : List Array → List Stmt → Line → Type 0
+HasDataBoundIn arrays body line = (inner : Loop) × IsOne (loops_in body) inner × (inner.line ≡ line) × (IsData arrays body inner.low ⊎ IsData arrays body inner.high)
+
+-- The same in some body of a program: the bounds of such loops must be known from slice locals and `const` arrays.
 abbrev pub HasDataBound : Program → Line → Type 0
-HasDataBound program line =
-    (invoked : Loop) × IsOne (invocations program) invoked × (inner : Loop) × IsOne (loops_in invoked.body) inner × (inner.line ≡ line)
-    × (IsData (arrays_of program.decls) invoked.body inner.low ⊎ IsData (arrays_of program.decls) invoked.body inner.high)
+HasDataBound program line = (invoked : Loop) × IsOne (invocations program) invoked × HasDataBoundIn (arrays_of program.decls) invoked.body line
 
 -- the lowest line of those that break a rule: none where no line does
 abbrev pub IsLowest : (Line → Type 0) → Option Line → Type 0

@@ -5,3 +5,4 @@ pub mod DataLocals
 pub mod Loops
 pub mod Bounds
 pub mod Rows
+pub mod Breaches

@@ -33,3 +33,8 @@ arrays_in = fold-Expr (List ℕ) arrays_node
 -- whether a name is one of a list
 abbrev pub is_among : List ℕ → ℕ → Bool
 is_among names name = list_any (λ other. name == other) names
+
+-- lists of names, without a subscript and with one
+pub record Named : Type 0 where
+  pub scalars : List ℕ
+  pub arrays : List ℕ

@@ -5,9 +5,12 @@
 //! runs, and the bounds of the loops inside a body depend on no written array.
 #![tactic(auto)]
 
+mod bounds;
 mod locals;
+mod loops;
 mod names;
 mod rows;
 mod written;
 
+pub use bounds::{BoundBreaches, bound_breaches};
 pub use locals::{DataLocals, data_locals};

@@ -1,5 +1,6 @@
 ghost use Rattle.std.specs.Prelude.{◌≡◌, ◌++◌, ◌<◌, ◌≤◌, ◌+◌, ◌*◌, ◌^◌, List, [], reverse, IfOk, OnOk};
-ghost use Rattle.std.specs.List.{flat_map};
+ghost use Rattle.std.specs.List.{flat_map, list_any};
+ghost use Rattle.data_local.specs.Names.{scalars_in};
 ghost use Rattle.nest_syntax.specs.Arrays.{Array, arrays_of};
 ghost use Rattle.data_local.specs.Givings.{givings};
 ghost use Rattle.data_local.specs.DataLocals.{AreDataLocals, has};
@@ -34,6 +35,26 @@ impl DataLocals {
         ensures { result ≡ has self.now name }
     {
         self.nodes.has(node_of_name(name))
+    }
+
+    /// Whether an expression names a data local of the body.
+    pub fn are_named_in(&self, expr: &Expr) -> bool
+        ensures { result ≡ list_any (has self.now) (scalars_in expr.now) }
+    {
+        match expr {
+            Expr::Number(_) => false,
+            Expr::Scalar(name) => self.has(*name),
+            Expr::Word(_, place) => self.are_named_in(place.get()),
+            Expr::Unary(_, part) => self.are_named_in(part.get()),
+            Expr::Binary(_, left, right) => {
+                self.are_named_in(left.get()) || self.are_named_in(right.get())
+            }
+            Expr::Choice(test, first, second) => {
+                self.are_named_in(test.get())
+                    || self.are_named_in(first.get())
+                    || self.are_named_in(second.get())
+            }
+        }
     }
 }
 
