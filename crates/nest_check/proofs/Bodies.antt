@@ -1,7 +1,6 @@
 -- There are no more bodies than items, and so at most 4,096 of them.
-use Rattle.std.proofs.Common.{◌≡◌, ℕ, zero, suc, ◌+◌, ◌*◌, ◌<◌, ◌≤◌, Bool, true, false, if◌then◌else◌, nat_lt, List, [], ◌∷◌, ◌++◌, map, length, refl, sym, ap, ◌∙◌, subst, arith, length-append}
+use Rattle.std.proofs.Common.{◌≡◌, ℕ, suc, ◌*◌, ◌≤◌, Bool, true, false, if◌then◌else◌, List, [], ◌∷◌, ◌++◌, map, length, refl, sym, ap, ◌∙◌, subst, arith, length-append}
 use Rattle.std.proofs.lemmas.Bool.{ltb-false}
-use Rattle.nest_syntax.specs.declared.names.Line.{Line}
 use Rattle.nest_syntax.specs.declared.tree.Arm.{Arm, roll-Arm}
 use Rattle.nest_syntax.specs.declared.tree.Loop.{Loop, roll-Loop, roll-out-Loop, out-Loop}
 use Rattle.nest_syntax.specs.declared.tree.Stmt.{Stmt, roll-Stmt}
@@ -11,8 +10,8 @@ use Rattle.nest_syntax.specs.declared.tree.Program.{Program}
 use Rattle.nest_syntax.specs.Course.{Setting, Item, Tested, Looped, in_order, chosen, item_node, tested_node, looped_node, item_of, looped_of, region_of, setting_of, bodies_of}
 use Rattle.nest_syntax.proofs.Equations.{tested_of}
 use Rattle.nest_check.specs.Joined.{joined}
-use Rattle.nest_check.specs.Entries.{Entry, Plain, Declares, Invokes, items, items_in_arm, items_of, items_node, arm_items_node, loop_items_node}
-use Rattle.nest_check.specs.Rules.{has_many_items, large_regions_among, region_lines}
+use Rattle.nest_check.specs.Entries.{Entry, items, items_in_arm, items_of, items_node, arm_items_node, loop_items_node}
+use Rattle.nest_check.specs.Rules.{has_many_items, large_regions_among}
 use Rattle.nest_check.specs.Kept.{KeepsRules}
 use Rattle.nest_check.proofs.EntryNodes.{items_beside}
 use Rattle.nest_check.proofs.Judged.{few_regions}
@@ -100,8 +99,8 @@ module _ (setting : Setting) where
   loop_step x y is = (
     subst (λ (l : Looped). length l.invocation.bodies ≤ 1) (sym (para-roll-Loop Item Tested Looped (item_node setting) (tested_node setting) (looped_node setting) x)) (omega arith),
     subst (λ (l : Looped). length l.region.bodies ≤ length (entries_in_loop (roll-Loop x))) (sym (para-roll-Loop Item Tested Looped (item_node setting) (tested_node setting) (looped_node setting) x))
-    (subst (λ es. length (items_at x.body).bodies ≤ length es) (sym (para-roll-Loop (List Entry) (List Entry) (List Entry) items_node arm_items_node loop_items_node x))
-    (subst (λ z. length (items_at z.body).bodies ≤ length (entries_at z.body)) is (items_few y.body))),
+        (subst (λ es. length (items_at x.body).bodies ≤ length es) (sym (para-roll-Loop (List Entry) (List Entry) (List Entry) items_node arm_items_node loop_items_node x))
+        (subst (λ z. length (items_at z.body).bodies ≤ length (entries_at z.body)) is (items_few y.body))),
   )
 
   few_looped : (l : Loop) → FewLooped l

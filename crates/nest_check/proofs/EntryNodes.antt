@@ -16,7 +16,7 @@ use Rattle.nest_check.specs.Entries.{Entry, Plain, Declares, Invokes, items, ite
 pub statements_in_arm-is : (a : Arm) → statements_in_arm a ≡ statements_of a.body
 statements_in_arm-is a = fold_out-Arm (List Entry) (List Entry) (List Entry) statements_node arm_statements_node loop_statements_node a
 
-items_beside : (stmts : List Stmt) → joined (map (λ (s : Stmt × List Entry). s.1) (map (λ s. (s, items s)) stmts)) ≡ items_of stmts
+pub items_beside : (stmts : List Stmt) → joined (map (λ (s : Stmt × List Entry). s.1) (map (λ s. (s, items s)) stmts)) ≡ items_of stmts
 items_beside [] = refl
 items_beside (s ∷ stmts) = ap (λ rest. items s ++ rest) (items_beside stmts)
 

@@ -8,11 +8,12 @@ use Rattle.nest_syntax.specs.declared.tree.Decl.{Decl}
 use Rattle.nest_syntax.specs.declared.tree.Decl.TheVariants as decl
 use Rattle.lowest_line.proofs.Lists.{lower_of-append}
 use Rattle.lowest_line.specs.Lowest.{lower_of, lowest}
+use Rattle.data_local.specs.Bounds.{HasDataBound, IsLowest}
 use Rattle.nest_check.specs.Declarations.{Declaration, first_of_each, lines_of, names_of}
 use Rattle.nest_check.specs.Entries.{scheduler_scalars}
 use Rattle.nest_check.specs.Rules.{first_behind, array_lines, region_lines, lines_where, is_deep, parts_of, deep_expressions}
 use Rattle.nest_check.specs.Kept.{KeepsRules}
-use Rattle.nest_check.specs.Broken.{Judged, first_broken, broken}
+use Rattle.nest_check.specs.Broken.{Judged, first_broken, IsBroken}
 use Rattle.nest_check.specs.Tables.{array_names}
 
 some_lowest : (lines : List Line) (line : Line) → (found : Line) × (lower_of (Some line) lines ≡ Some found)
@@ -35,9 +36,13 @@ pub nil_right : {A : Type 0} (xs ys : List A) → xs ++ ys ≡ [] → ys ≡ []
 nil_right [] ys e = e
 nil_right (x ∷ xs) ys e = absurd (cc)
 
-pub keeps_all : (program : Program) → broken program ≡ None → KeepsRules program
-keeps_all program e =
-    let r1 = first_kept _ _ _ e in
+none_breaks : (program : Program) (inner : Option Line) → IsLowest (HasDataBound program) inner → inner ≡ None → (line : Line) → HasDataBound program line → ⊥
+none_breaks program None is e = is
+none_breaks program (Some line) is e = absurd (cc)
+
+pub keeps_all : (program : Program) → IsBroken program None → KeepsRules program
+keeps_all program b =
+    let r1 = first_kept _ _ _ (sym b.found_is) in
     let r2 = first_kept _ _ _ r1.1 in
     let r3 = first_kept _ _ _ r2.1 in
     let r4 = first_kept _ _ _ r3.1 in
@@ -46,7 +51,9 @@ keeps_all program e =
     let r7 = first_kept _ _ _ r6.1 in
     let r8 = first_kept _ _ _ r7.1 in
     let r9 = first_kept _ _ _ r8.1 in
-    let r12 = first_kept _ _ _ r9.1 in
+    let r10 = first_kept _ _ _ r9.1 in
+    let r11 = first_kept _ _ _ r10.1 in
+    let r12 = first_kept _ _ _ r11.1 in
     let r13 = first_kept _ _ _ r12.1 in
     let r14 = first_kept _ _ _ r13.1 in
     record {
@@ -59,6 +66,8 @@ keeps_all program e =
       levels = none_lowest _ r7.0;
       variables = none_lowest _ r8.0;
       scheduled = none_lowest _ r9.0;
+      bounds = none_lowest _ r10.0;
+      inner = none_breaks program b.inner b.inner_is r11.0;
       items = none_lowest _ r12.0;
       bodies = none_lowest _ r13.0;
       depths = none_lowest _ r14.0;

@@ -1,8 +1,9 @@
-ghost use Rattle.std.specs.Prelude.{◌≡◌, IfOk};
+ghost use Rattle.std.specs.Prelude.{◌≡◌, ◌<◌, ◌≤◌, ◌^◌, length, sum, IfOk};
 ghost use Rattle.nest_syntax.specs.Named.{IsWellNamed};
 ghost use Rattle.nest_syntax.specs.Arrays.{arrays_of, sizes_of, array_of};
 ghost use Rattle.nest_check.specs.Declarations.{first_of_each};
 ghost use Rattle.nest_check.specs.Entries.{scheduler_scalars};
+ghost use Rattle.nest_syntax.specs.Course.{bodies_of};
 ghost use Rattle.nest_check.specs.Kept.{KeepsRules};
 ghost use Rattle.nest_check.specs.Tables.{scalar_of};
 
@@ -49,6 +50,7 @@ impl Checked {
     ) -> Result<Checked, NoMemory>
         requires named { IsWellNamed program }
         requires keeps { KeepsRules program }
+        requires few { length program.decls < 2 ^ 32 }
         requires scalars { scalars.now ≡ first_of_each (scheduler_scalars program) }
         ensures { IfOk result (λ checked. checked ≡ program) }
     {
@@ -82,6 +84,9 @@ impl Checked {
         ensures same { result.now ≡ self.now }
         ensures named { IsWellNamed self.now }
         ensures keeps { KeepsRules self.now }
+        ensures few_decls { length self.now.decls < 2 ^ 32 }
+        ensures few_bodies { length (bodies_of self.now) ≤ 4096 }
+        ensures few_words { sum (sizes_of (arrays_of self.now.decls)) ≤ 1048576 }
     {
         &self.program
     }

@@ -4,12 +4,13 @@ ghost use Rattle.nest_syntax.specs.Named.{IsWellNamed};
 ghost use Rattle.nest_check.specs.Declarations.{first_of_each, lines_of};
 ghost use Rattle.nest_check.specs.Entries.{scheduler_scalars};
 ghost use Rattle.nest_check.specs.Rules.{first_behind};
-ghost use Rattle.nest_check.specs.Broken.{first_broken, broken};
+ghost use Rattle.nest_check.specs.Broken.{first_broken, IsBroken};
 
 use crate::arrays::{lowest_beyond_64, lowest_wrong_length};
 use crate::first_names::FirstNames;
 use crate::items::sizes_of;
 use crate::parts::part_breaches;
+use data_local::bound_breaches;
 use lowest_line::Lowest;
 use nest_scope::scope_breaches;
 use nest_syntax::{Line, NoMemory, Program};
@@ -26,10 +27,11 @@ pub(crate) struct Judgement {
 
 pub(crate) fn judge(alloc: Global, program: &Program) -> Result<Judgement, NoMemory>
     requires { IsWellNamed program.now }
-    ensures broken { IfOk result (λ j. j.broken ≡ broken program.now) }
+    ensures broken { IfOk result (λ j. IsBroken program.now j.broken) }
     ensures scalars { IfOk result (λ j. j.scalars ≡ take 33 (first_of_each (scheduler_scalars program.now))) }
 {
     let names = scope_breaches(alloc, program)?;
+    let bounds = bound_breaches(alloc, program)?;
     let parts = part_breaches(program);
     let sizes = sizes_of(alloc, program)?;
     let rules = [
@@ -42,6 +44,8 @@ pub(crate) fn judge(alloc: Global, program: &Program) -> Result<Judgement, NoMem
         (7u8, parts.levels.line()),
         (8u8, names.loop_variable_assigned),
         (9u8, names.scheduler_scalar_assigned),
+        (10u8, bounds.high),
+        (11u8, bounds.inner),
         (12u8, sizes.regions.line()),
         (13u8, sizes.bodies.line()),
         (
