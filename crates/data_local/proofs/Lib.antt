@@ -1,0 +1,6 @@
+pub mod Parts
+pub mod Scans
+pub mod Walks
+pub mod Graphs
+pub mod Gathers
+pub mod Lowests

@@ -1,0 +1,213 @@
+-- The lowest line of loops that pass a test, and what it tells of the lines that break a rule.
+use Rattle.std.proofs.Common.{◌≡◌, ℕ, suc, ◌+◌, ◌<◌, ◌≤◌, Bool, true, false, ◌||◌, ◌==◌, eq-eqb, ◌⊎◌, inl, inr, if◌then◌else◌, Option, Some, None, List, [], ◌∷◌, ◌++◌, map, filter, length, take, drop, get_or, nat_lt, refl, sym, ap, ◌∙◌, subst, arith, drop-cons, add-one}
+use Rattle.std.specs.List.{list_any}
+use Rattle.std.proofs.lemmas.List.{drop_all, take_more, map-append}
+use Rattle.std.proofs.lemmas.Bool.{ltb-true, ltb-false, eqb-true}
+use Rattle.nest_syntax.specs.declared.names.Line.{Line}
+use Rattle.nest_syntax.specs.declared.tree.Expr.{Expr}
+use Rattle.nest_syntax.specs.declared.tree.Loop.{Loop}
+use Rattle.nest_syntax.specs.declared.tree.Stmt.{Stmt}
+use Rattle.nest_syntax.specs.Arrays.{Array}
+use Rattle.nest_syntax.specs.Value.{names_written}
+use Rattle.lowest_line.specs.Lowest.{lower, lower_of}
+use Rattle.data_local.specs.Names.{scalars_in, is_among}
+use Rattle.data_local.specs.DataLocals.{IsOne, IsData, AreDataLocals, has}
+use Rattle.data_local.specs.Loops.{loops_in}
+use Rattle.data_local.specs.Bounds.{HasDataBoundIn, IsLowest}
+use Rattle.data_local.specs.Breaches.{is_data, has_data_bound, lines_where, lower_if, IsAtMost, Lowers}
+use Rattle.data_local.proofs.Parts.{either, or_left, or_right, one_left, one_right, one_parts}
+use denote.Ref.{Bor}
+
+-- one more loop
+where_first : (test : Loop → Bool) (l : Loop) (loops : List Loop) (found : Option Line) → lower_of found (lines_where test (l ∷ loops)) ≡ lower_of (lower_if (test l) found l.line) (lines_where test loops)
+where_first test l loops found = by_test (test l)
+  where
+    by_test : (b : Bool) → lower_of found (map (λ (x : Loop). x.line) (if b then l ∷ filter test loops else filter test loops)) ≡ lower_of (if b then lower found l.line else found) (lines_where test loops)
+    by_test true = refl
+    by_test false = refl
+
+pub notes_more : (test : Loop → Bool) (loops : List (Bor Loop)) (i : ℕ) → i < length loops → (here : Bor Loop) → here ≡ get_or loops i here → (breaks : Bool) → breaks ≡ test here.now
+    → (found found' whole : Option Line) → lower_of found (lines_where test (map (λ x. x.now) (drop i loops))) ≡ whole → found' ≡ lower_if breaks found here.now.line
+    → lower_of found' (lines_where test (map (λ x. x.now) (drop (i + 1) loops))) ≡ whole
+notes_more test loops i there here is breaks same found found' whole left more =
+    let rest : drop i loops ≡ here ∷ drop (i + 1) loops = drop-cons loops i here there ∙ ap (λ x. x ∷ drop (suc i) loops) (sym is) ∙ ap (λ k. here ∷ drop k loops) (sym (add-one i)) in
+    ap (λ f. lower_of f (lines_where test (map (λ (x : Bor Loop). x.now) (drop (i + 1) loops)))) (more ∙ ap (λ b. lower_if b found here.now.line) same)
+    ∙ sym (where_first test here.now (map (λ (x : Bor Loop). x.now) (drop (i + 1) loops)) found)
+    ∙ ap (λ ls. lower_of found (lines_where test (map (λ (x : Bor Loop). x.now) ls))) (sym rest)
+    ∙ left
+
+pub notes_end : (test : Loop → Bool) (loops : List (Bor Loop)) (i : ℕ) → length loops ≤ i → (found whole : Option Line) → lower_of found (lines_where test (map (λ x. x.now) (drop i loops))) ≡ whole → found ≡ whole
+notes_end test loops i over found whole left = ap (λ ls. lower_of found (lines_where test (map (λ (x : Bor Loop). x.now) ls))) (sym (drop_all i loops over)) ∙ left
+
+-- the lower of two lines is at most each, and one of them
+lower_new : (found : Option Line) (line : Line) → IsAtMost (lower found line) line
+lower_new None line = omega arith
+lower_new (Some lowest) line = by_test (nat_lt line.0 lowest.0) refl
+  where
+    by_test : (b : Bool) → nat_lt line.0 lowest.0 ≡ b → IsAtMost (Some (if b then line else lowest)) line
+    by_test true e = omega arith
+    by_test false e = ltb-false line.0 lowest.0 e
+
+lower_old : (lowest line : Line) → IsAtMost (lower (Some lowest) line) lowest
+lower_old lowest line = by_test (nat_lt line.0 lowest.0) refl
+  where
+    by_test : (b : Bool) → nat_lt line.0 lowest.0 ≡ b → IsAtMost (Some (if b then line else lowest)) lowest
+    by_test true e = let less : line.0 < lowest.0 = ltb-true line.0 lowest.0 e in omega arith
+    by_test false e = omega arith
+
+lower_from : (found : Option Line) (line some : Line) → lower found line ≡ Some some → (found ≡ Some some) ⊎ (some ≡ line)
+lower_from None line some e = inr (sym (let same : line ≡ some = cc in same))
+lower_from (Some lowest) line some e = by_test (nat_lt line.0 lowest.0) e
+  where
+    by_test : (b : Bool) → Some (if b then line else lowest) ≡ Some some → (Some lowest ≡ Some some) ⊎ (some ≡ line)
+    by_test true h = inr (let same : some ≡ line = cc in same)
+    by_test false h = inl h
+
+at_most_lower : (found : Option Line) (one line : Line) → IsAtMost found line → IsAtMost (lower found one) line
+at_most_lower None one line h = absurd h
+at_most_lower (Some lowest) one line h = by_test (nat_lt one.0 lowest.0) refl
+  where
+    by_test : (b : Bool) → nat_lt one.0 lowest.0 ≡ b → IsAtMost (Some (if b then one else lowest)) line
+    by_test true e = let less : one.0 < lowest.0 = ltb-true one.0 lowest.0 e in omega arith
+    by_test false e = h
+
+at_most_lowest : (found : Option Line) (lines : List Line) (line : Line) → IsAtMost found line → IsAtMost (lower_of found lines) line
+at_most_lowest found [] line h = h
+at_most_lowest found (one ∷ lines) line h = at_most_lowest (lower found one) lines line (at_most_lower found one line h)
+
+lowest_reached : (found : Option Line) (lines : List Line) (line : Line) → IsOne lines line → IsAtMost (lower_of found lines) line
+lowest_reached found [] line h = absurd h
+lowest_reached found (one ∷ lines) line (inl same) = subst (λ l. IsAtMost (lower_of (lower found one) lines) l) (sym same) (at_most_lowest (lower found one) lines one (lower_new found one))
+lowest_reached found (one ∷ lines) line (inr later) = lowest_reached (lower found one) lines line later
+
+lowest_from : (found : Option Line) (lines : List Line) (some : Line) → lower_of found lines ≡ Some some → (found ≡ Some some) ⊎ IsOne lines some
+lowest_from found [] some e = inl e
+lowest_from found (one ∷ lines) some e = elim (lowest_from (lower found one) lines some e) [
+  | inl here ↦ elim (lower_from found one some here) [ inl was ↦ inl was | inr same ↦ inr (inl same) ]
+  | inr later ↦ inr (inr later)
+]
+
+at_most_some : (found : Option Line) (line : Line) → found ≡ Some line → IsAtMost found line
+at_most_some found line e = subst (λ f. IsAtMost f line) (sym e) (let same : line.0 ≤ line.0 = omega arith in same)
+
+pub lowers_by : (Breaks : Line → Type 0) (lines : List Line) (old new : Option Line) → ((line : Line) → Breaks line → IsOne lines line) → ((line : Line) → IsOne lines line → Breaks line)
+    → new ≡ lower_of old lines → Lowers Breaks old new
+lowers_by Breaks lines old new into back is = record {
+  reached = λ line h. subst (λ f. IsAtMost f line) (sym is) (lowest_reached old lines line (into line h));
+  kept = λ line e. subst (λ f. IsAtMost f line) (sym is) (at_most_lowest old lines line (at_most_some old line e));
+  from = λ line e. elim (lowest_from old lines line (sym is ∙ e)) [ inl was ↦ inl was | inr one ↦ inr (back line one) ];
+}
+
+-- the lines of the loops that pass a test, both ways
+one_where : (test : Loop → Bool) (loops : List Loop) (l : Loop) → IsOne loops l → test l ≡ true → IsOne (lines_where test loops) l.line
+one_where test [] l h e = absurd h
+one_where test (first ∷ loops) l (inl same) e = by_test (test first) (ap test (sym same) ∙ e)
+  where
+    by_test : (b : Bool) → b ≡ true → IsOne (map (λ (x : Loop). x.line) (if b then first ∷ filter test loops else filter test loops)) l.line
+    by_test true h = inl (ap (λ (x : Loop). x.line) same)
+    by_test false h = absurd cc
+one_where test (first ∷ loops) l (inr later) e = by_test (test first) (one_where test loops l later e)
+  where
+    by_test : (b : Bool) → IsOne (lines_where test loops) l.line → IsOne (map (λ (x : Loop). x.line) (if b then first ∷ filter test loops else filter test loops)) l.line
+    by_test true h = inr h
+    by_test false h = h
+
+where_one : (test : Loop → Bool) (loops : List Loop) (line : Line) → IsOne (lines_where test loops) line → (l : Loop) × IsOne loops l × (l.line ≡ line) × (test l ≡ true)
+where_one test [] line h = absurd h
+where_one test (first ∷ loops) line h = by_test (λ later. where_one test loops line later) (test first) refl h
+  where
+    by_test : (IsOne (lines_where test loops) line → (l : Loop) × IsOne loops l × (l.line ≡ line) × (test l ≡ true)) → (b : Bool) → test first ≡ b
+        → IsOne (map (λ (x : Loop). x.line) (if b then first ∷ filter test loops else filter test loops)) line → (l : Loop) × IsOne (first ∷ loops) l × (l.line ≡ line) × (test l ≡ true)
+    by_test go true e (inl same) = (first, inl refl, sym same, e)
+    by_test go true e (inr later) = let at = go later in (at.0, inr at.1, at.2, at.3)
+    by_test go false e later = let at = go later in (at.0, inr at.1, at.2, at.3)
+
+-- the test of an expression, both ways
+any_local : (locals names : List ℕ) → list_any (has locals) names ≡ true → (name : ℕ) × (is_among names name ≡ true) × (has locals name ≡ true)
+any_local locals [] e = absurd cc
+any_local locals (first ∷ names) e = by_either (λ later. any_local locals names later) (either (has locals first) (list_any (has locals) names) e)
+  where
+    by_either : (list_any (has locals) names ≡ true → (name : ℕ) × (is_among names name ≡ true) × (has locals name ≡ true)) → (has locals first ≡ true) ⊎ (list_any (has locals) names ≡ true)
+        → (name : ℕ) × (is_among (first ∷ names) name ≡ true) × (has locals name ≡ true)
+    by_either go (inl here) = (first, or_left (first == first) (is_among names first) (eq-eqb first first refl), here)
+    by_either go (inr later) = let at = go later in (at.0, or_right (at.0 == first) (is_among names at.0) at.1, at.2)
+
+local_any : (locals names : List ℕ) (name : ℕ) → is_among names name ≡ true → has locals name ≡ true → list_any (has locals) names ≡ true
+local_any locals [] name e h = e
+local_any locals (first ∷ names) name e h = by_either (λ later. local_any locals names name later h) (either (name == first) (is_among names name) e)
+  where
+    by_either : (is_among names name ≡ true → list_any (has locals) names ≡ true) → ((name == first) ≡ true) ⊎ (is_among names name ≡ true) → (has locals first || list_any (has locals) names) ≡ true
+    by_either go (inl same) = or_left (has locals first) (list_any (has locals) names) (ap (has locals) (sym (eqb-true name first same)) ∙ h)
+    by_either go (inr later) = or_right (has locals first) (list_any (has locals) names) (go later)
+
+data_is : (arrays : List Array) (body : List Stmt) (locals : List ℕ) (e : Expr) → AreDataLocals arrays body locals → is_data arrays locals e ≡ true → IsData arrays body e
+data_is arrays body locals e are h = elim (either (names_written arrays e) (list_any (has locals) (scalars_in e)) h) [
+  | inl written ↦ inl written
+  | inr local ↦ let at = any_local locals (scalars_in e) local in inr (at.0, at.1, (are at.0).0 at.2)
+]
+
+is_data_of : (arrays : List Array) (body : List Stmt) (locals : List ℕ) (e : Expr) → AreDataLocals arrays body locals → IsData arrays body e → is_data arrays locals e ≡ true
+is_data_of arrays body locals e are (inl written) = or_left (names_written arrays e) (list_any (has locals) (scalars_in e)) written
+is_data_of arrays body locals e are (inr local) = or_right (names_written arrays e) (list_any (has locals) (scalars_in e)) (local_any locals (scalars_in e) local.0 local.1 ((are local.0).1 local.2))
+
+-- the loops of a body that have a data expression as a bound
+pub body_lowers : (arrays : List Array) (body : List Stmt) (locals : List ℕ) (loops : List Loop) (old new : Option Line) → AreDataLocals arrays body locals → loops ≡ loops_in body
+    → new ≡ lower_of old (lines_where (has_data_bound arrays locals) loops) → Lowers (HasDataBoundIn arrays body) old new
+body_lowers arrays body locals loops old new are all is = lowers_by (HasDataBoundIn arrays body) (lines_where (has_data_bound arrays locals) loops) old new into back is
+  where
+    passes : (l : Loop) → IsData arrays body l.low ⊎ IsData arrays body l.high → has_data_bound arrays locals l ≡ true
+    passes l (inl low) = or_left (is_data arrays locals l.low) (is_data arrays locals l.high) (is_data_of arrays body locals l.low are low)
+    passes l (inr high) = or_right (is_data arrays locals l.low) (is_data arrays locals l.high) (is_data_of arrays body locals l.high are high)
+
+    into : (line : Line) → HasDataBoundIn arrays body line → IsOne (lines_where (has_data_bound arrays locals) loops) line
+    into line h = subst (IsOne (lines_where (has_data_bound arrays locals) loops)) h.2 (one_where (has_data_bound arrays locals) loops h.0 (subst (λ ls. IsOne ls h.0) (sym all) h.1) (passes h.0 h.3))
+
+    back : (line : Line) → IsOne (lines_where (has_data_bound arrays locals) loops) line → HasDataBoundIn arrays body line
+    back line h =
+        let at = where_one (has_data_bound arrays locals) loops line h in (
+          at.0,
+          subst (λ ls. IsOne ls at.0) all at.1,
+          at.2,
+          elim (either (is_data arrays locals at.0.low) (is_data arrays locals at.0.high) at.3) [
+            | inl low ↦ inl (data_is arrays body locals at.0.low are low)
+            | inr high ↦ inr (data_is arrays body locals at.0.high are high)
+          ],
+        )
+
+-- the lines of the invocations so far
+abbrev pub Among : List Array → List Loop → Line → Type 0
+Among arrays invoked line = (one : Loop) × IsOne invoked one × HasDataBoundIn arrays one.body line
+
+pub lowers_none : (arrays : List Array) → Lowers (Among arrays []) None None
+lowers_none arrays = record { reached = λ line h. h.1; kept = λ line e. absurd cc; from = λ line e. inl e }
+
+lower_than : (found : Option Line) (lowest line : Line) → IsAtMost found lowest → lowest.0 ≤ line.0 → IsAtMost found line
+lower_than None lowest line h le = absurd h
+lower_than (Some one) lowest line h le = let most : one.0 ≤ lowest.0 = h in omega arith
+
+pub lowers_more : (arrays : List Array) (loops : List (Bor Loop)) (i : ℕ) → i < length loops → (here : Bor Loop) → here ≡ get_or loops i here → (found found' : Option Line)
+    → Lowers (Among arrays (map (λ x. x.now) (take i loops))) None found → Lowers (HasDataBoundIn arrays here.now.body) found found' → Lowers (Among arrays (map (λ x. x.now) (take (i + 1) loops))) None found'
+lowers_more arrays loops i there here is found found' before more = record {
+  reached = λ line h. reached_by line h.0 h.2 (one_parts (map (λ (x : Bor Loop). x.now) (take i loops)) (here.now ∷ []) h.0 (subst (λ ls. IsOne ls h.0) all h.1));
+  kept = λ line e. absurd cc;
+  from = λ line e. elim (more.from line e) [
+    | inl was ↦ elim (before.from line was) [ inl none ↦ inl none | inr one ↦ inr (one.0, subst (λ ls. IsOne ls one.0) (sym all) (one_left (map (λ (x : Bor Loop). x.now) (take i loops)) (here.now ∷ []) one.0 one.1), one.2) ]
+    | inr bound ↦ inr (here.now, subst (λ ls. IsOne ls here.now) (sym all) (one_right (map (λ (x : Bor Loop). x.now) (take i loops)) (here.now ∷ []) here.now (inl refl)), bound)
+  ];
+}
+  where
+    all : map (λ (x : Bor Loop). x.now) (take (i + 1) loops) ≡ map (λ (x : Bor Loop). x.now) (take i loops) ++ here.now ∷ []
+    all = ap (map (λ (x : Bor Loop). x.now)) (take_more loops i here there ∙ ap (λ x. take i loops ++ x ∷ []) (sym is)) ∙ map-append (λ (x : Bor Loop). x.now) (take i loops) (here ∷ [])
+
+    at_most : (o : Option Line) (line : Line) → found ≡ o → IsAtMost o line → IsAtMost found' line
+    at_most None line e h = absurd h
+    at_most (Some lowest) line e h = lower_than found' lowest line (more.kept lowest e) h
+
+    reached_by : (line : Line) (one : Loop) → HasDataBoundIn arrays one.body line → IsOne (map (λ (x : Bor Loop). x.now) (take i loops)) one ⊎ IsOne (here.now ∷ []) one → IsAtMost found' line
+    reached_by line one bound (inl was) = at_most found line refl (before.reached line (one, was, bound))
+    reached_by line one bound (inr (inl same)) = more.reached line (subst (λ (l : Loop). HasDataBoundIn arrays l.body line) same bound)
+    reached_by line one bound (inr (inr none)) = absurd none
+
+pub lowest_of : (Breaks : Line → Type 0) (found : Option Line) → Lowers Breaks None found → IsLowest Breaks found
+lowest_of Breaks None lowers = λ line h. lowers.reached line h
+lowest_of Breaks (Some lowest) lowers = (elim (lowers.from lowest refl) [ inl none ↦ absurd cc | inr breaks ↦ breaks ], λ line h. lowers.reached line h)

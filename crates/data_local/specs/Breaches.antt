@@ -1,0 +1,42 @@
+-- How the lowest lines are found: what the parts of the search tell of each other.
+use Rattle.std.specs.Prelude.{◌≡◌, ℕ, ◌≤◌, Bool, ◌||◌, ◌⊎◌, if◌then◌else◌, Option, Some, None, List, map, filter}
+use Rattle.std.specs.List.{list_any}
+use Rattle.nest_syntax.specs.declared.names.Line.{Line}
+use Rattle.nest_syntax.specs.declared.tree.Expr.{Expr}
+use Rattle.nest_syntax.specs.declared.tree.Loop.{Loop}
+use Rattle.nest_syntax.specs.Arrays.{Array}
+use Rattle.nest_syntax.specs.Value.{names_written}
+use Rattle.lowest_line.specs.Lowest.{lower}
+use Rattle.data_local.specs.Names.{Named, scalars_in, is_among}
+use Rattle.data_local.specs.DataLocals.{has}
+
+-- that two pairs of lists have the same names
+pub record HasSameNames (named : Named) (scalars arrays : List ℕ) : Type 0 where
+  pub of_scalars : (name : ℕ) → is_among named.scalars name ≡ is_among scalars name
+  pub of_arrays : (name : ℕ) → is_among named.arrays name ≡ is_among arrays name
+
+-- whether an expression names a written array or a local of this set
+abbrev pub is_data : List Array → List ℕ → Expr → Bool
+is_data arrays locals e = names_written arrays e || list_any (has locals) (scalars_in e)
+
+abbrev pub has_data_bound : List Array → List ℕ → Loop → Bool
+has_data_bound arrays locals l = is_data arrays locals l.low || is_data arrays locals l.high
+
+-- the lines of the loops that pass a test
+abbrev pub lines_where : (Loop → Bool) → List Loop → List Line
+lines_where test loops = map (λ (l : Loop). l.line) (filter test loops)
+
+-- the lower line, where there is one more
+abbrev pub lower_if : Bool → Option Line → Line → Option Line
+lower_if breaks found line = if breaks then lower found line else found
+
+-- that there is a line, not above this one
+abbrev pub IsAtMost : Option Line → Line → Type 0
+IsAtMost None line = ⊥
+IsAtMost (Some lowest) line = lowest.0 ≤ line.0
+
+-- what the lowest line becomes by the lines that break a rule
+pub record Lowers (Breaks : Line → Type 0) (old new : Option Line) : Type 0 where
+  pub reached : (line : Line) → Breaks line → IsAtMost new line
+  pub kept : (line : Line) → old ≡ Some line → IsAtMost new line
+  pub from : (line : Line) → new ≡ Some line → (old ≡ Some line) ⊎ Breaks line

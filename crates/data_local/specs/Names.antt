@@ -1,0 +1,40 @@
+-- The names that an expression names: as scalars, and as arrays, with a subscript.
+use Rattle.std.specs.Prelude.{ℕ, Bool, ◌==◌, List, [], ◌∷◌, ◌++◌}
+use Rattle.std.specs.List.{list_any}
+use Rattle.nest_syntax.specs.declared.tree.Expr.{Expr}
+use Rattle.nest_syntax.specs.declared.tree.Expr.TheOpen.{Expr-F}
+use Rattle.nest_syntax.specs.declared.tree.Expr.TheFolds.{fold-Expr}
+
+-- one layer of an expression, with the names of its parts in their places
+abbrev pub scalars_node : Expr-F (List ℕ) → List ℕ
+scalars_node (Expr-F.Number n) = []
+scalars_node (Expr-F.Scalar name) = name ∷ []
+scalars_node (Expr-F.Word name place) = place
+scalars_node (Expr-F.Unary operation part) = part
+scalars_node (Expr-F.Binary operation left right) = left ++ right
+scalars_node (Expr-F.Choice test first second) = test ++ (first ++ second)
+
+abbrev pub arrays_node : Expr-F (List ℕ) → List ℕ
+arrays_node (Expr-F.Number n) = []
+arrays_node (Expr-F.Scalar name) = []
+arrays_node (Expr-F.Word name place) = name ∷ place
+arrays_node (Expr-F.Unary operation part) = part
+arrays_node (Expr-F.Binary operation left right) = left ++ right
+arrays_node (Expr-F.Choice test first second) = test ++ (first ++ second)
+
+-- the names without a subscript, in the order of the text, as often as they stand there
+abbrev pub scalars_in : Expr → List ℕ
+scalars_in = fold-Expr (List ℕ) scalars_node
+
+-- the names with a subscript
+abbrev pub arrays_in : Expr → List ℕ
+arrays_in = fold-Expr (List ℕ) arrays_node
+
+-- whether a name is one of a list
+abbrev pub is_among : List ℕ → ℕ → Bool
+is_among names name = list_any (λ other. name == other) names
+
+-- lists of names, without a subscript and with one
+pub record Named : Type 0 where
+  pub scalars : List ℕ
+  pub arrays : List ℕ

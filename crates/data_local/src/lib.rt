@@ -1,0 +1,16 @@
+//! The data locals of a body, and the two rules on the bounds of loops.
+//!
+//! In come the declarations and a body, out goes the set of its data locals: the names whose values may depend on written
+//! arrays. In comes a program, out go the lowest lines that break the rules: a high bound stays as it is while its loop
+//! runs, and the bounds of the loops inside a body depend on no written array.
+#![tactic(auto)]
+
+mod bounds;
+mod locals;
+mod loops;
+mod names;
+mod rows;
+mod written;
+
+pub use bounds::{BoundBreaches, bound_breaches};
+pub use locals::{DataLocals, data_locals};

@@ -1,0 +1,160 @@
+ghost use Rattle.std.specs.Prelude.{◌≡◌, ◌++◌, ◌<◌, ◌≤◌, ◌+◌, ◌*◌, ◌^◌, List, [], reverse, IfOk, OnOk};
+ghost use Rattle.std.specs.List.{flat_map, list_any};
+ghost use Rattle.data_local.specs.Names.{scalars_in};
+ghost use Rattle.nest_syntax.specs.Arrays.{Array, arrays_of};
+ghost use Rattle.data_local.specs.Givings.{givings};
+ghost use Rattle.data_local.specs.DataLocals.{AreDataLocals, has};
+ghost use Rattle.data_local.specs.Written.{TellsWritten};
+ghost use Rattle.data_local.specs.Rows.{told, IsBuilt, row_edges, row_starts, edges_to, start_of};
+
+use crate::names::{draw_edges, node_of_name};
+use crate::rows::{Row, keep_block};
+use crate::written::WrittenArrays;
+use graph_reach::{Edge, Nodes, reached};
+use nest_syntax::{Decl, Expr, NoMemory, Stmt};
+use std::alloc::Global;
+use std::marker::Model;
+
+/// The data locals of a body.
+#[derive(Drop)]
+pub struct DataLocals {
+    nodes: Nodes,
+}
+
+impl Model for DataLocals {
+    ghost use Rattle.std.specs.Prelude.{ℕ, List};
+
+    ghost Value = { List ℕ };
+
+    ghost view = { λ d. d.nodes };
+}
+
+impl DataLocals {
+    /// Whether a name is a data local of the body.
+    pub fn has(&self, name: u32) -> bool
+        ensures { result ≡ has self.now name }
+    {
+        self.nodes.has(node_of_name(name))
+    }
+
+    /// Whether an expression names a data local of the body.
+    pub fn are_named_in(&self, expr: &Expr) -> bool
+        ensures { result ≡ list_any (has self.now) (scalars_in expr.now) }
+    {
+        match expr {
+            Expr::Number(_) => false,
+            Expr::Scalar(name) => self.has(*name),
+            Expr::Word(_, place) => self.are_named_in(place.get()),
+            Expr::Unary(_, part) => self.are_named_in(part.get()),
+            Expr::Binary(_, left, right) => {
+                self.are_named_in(left.get()) || self.are_named_in(right.get())
+            }
+            Expr::Choice(test, first, second) => {
+                self.are_named_in(test.get())
+                    || self.are_named_in(first.get())
+                    || self.are_named_in(second.get())
+            }
+        }
+    }
+}
+
+/// The data locals of a body, in a program with these declarations.
+pub fn data_locals(alloc: Global, decls: &[Decl], body: &[Stmt]) -> Result<DataLocals, NoMemory>
+    ensures { IfOk result (λ locals. AreDataLocals (arrays_of decls.now) body.now locals) }
+{
+    let written = WrittenArrays::new(alloc, decls)?;
+    data_locals_of(alloc, &written, body)
+}
+
+/// The same, where the written arrays are known.
+pub(crate) fn data_locals_of(
+    alloc: Global,
+    written: &WrittenArrays,
+    body: &[Stmt],
+) -> Result<DataLocals, NoMemory>
+    ensures { IfOk result (λ locals. (arrays : List Array) → TellsWritten arrays written.now → AreDataLocals arrays body.now locals) }
+{
+    let rows = rows_of(alloc, body)?;
+    let mut graph = graph_of(alloc, &rows, written)?;
+    let nodes = reached(alloc, &graph.starts, &mut graph.edges)?;
+    Ok(DataLocals { nodes })
+}
+
+fn rows_of<'a>(alloc: Global, body: &'a [Stmt]) -> Result<Vec<Row<'a>>, NoMemory>
+    ensures told { IfOk result (λ rows. told (reverse rows.items) ≡ givings body.now) }
+    ensures built { IfOk result (λ rows. IsBuilt (reverse rows.items)) }
+{
+    let mut rows = Vec::new(alloc);
+    keep_block(body, 0, &mut rows)?;
+    Ok(rows)
+}
+
+// The graph in which the data locals are reached: an edge leads to each giving and each test from the scalars in its
+// expression and from the test that it stands under, and those that name a written array are the starts.
+#[derive(Drop)]
+struct Graph {
+    starts: Vec<u64>,
+    edges: Vec<Edge>,
+}
+
+fn graph_of(alloc: Global, rows: &[Row], written: &WrittenArrays) -> Result<Graph, NoMemory>
+    ensures edges { IfOk result (λ graph. graph.edges.items ≡ flat_map row_edges rows.now) }
+    ensures starts { IfOk result (λ graph. (arrays : List Array) → TellsWritten arrays written.now → graph.starts.items ≡ flat_map (row_starts arrays) rows.now) }
+{
+    let mut graph = Graph {
+        starts: Vec::new(alloc),
+        edges: Vec::new(alloc),
+    };
+    for row in rows {
+        graph.draw_row(*row, written)?;
+    }
+    Ok(graph)
+}
+
+impl Graph {
+    fn draw_row(&mut self, row: Row, written: &WrittenArrays) -> Result<(), NoMemory>
+        ensures edges { OnOk result (self.new.edges.items ≡ self.old.edges.items ++ row_edges row.entry) }
+        ensures starts { OnOk result ((arrays : List Array) → TellsWritten arrays written.now → self.new.starts.items ≡ self.old.starts.items ++ row_starts arrays row.entry) }
+    {
+        match row {
+            Row::Test {
+                number,
+                test,
+                under,
+            } => self.draw(node_of_test(number), test, under, written),
+            Row::Gives { name, value, under } => self.draw(
+                node_of_name(name),
+                value,
+                under,
+                written,
+            ),
+        }
+    }
+
+    fn draw(
+        &mut self,
+        to: u64,
+        expr: &Expr,
+        under: u32,
+        written: &WrittenArrays,
+    ) -> Result<(), NoMemory>
+        ensures edges { OnOk result (self.new.edges.items ≡ self.old.edges.items ++ edges_to to expr.now under) }
+        ensures starts { OnOk result ((arrays : List Array) → TellsWritten arrays written.now → self.new.starts.items ≡ self.old.starts.items ++ start_of arrays to expr.now) }
+    {
+        if written.are_named_in(expr) {
+            self.starts.push(to)?;
+        }
+        draw_edges(expr, to, &mut self.edges)?;
+        self.edges.push(Edge {
+            from: node_of_test(under),
+            to,
+        })?;
+        Ok(())
+    }
+}
+
+fn node_of_test(number: u32) -> u64
+    ensures { result ≡ 2 * number + 1 }
+{
+    2 * u64::from(number) + 1
+}

@@ -1,0 +1,9 @@
+use Rattle.std.proofs.Common.{◌≡◌, ℕ, ◌||◌, take}
+use Rattle.graph_reach.specs.Reached.{is_among, is_edge, IsGrown}
+use Rattle.graph_reach.proofs.follow.Given as goal
+
+abbrev pub invariant-loop-index : goal.invariant-loop-index
+invariant-loop-index l = record {
+  grown : IsGrown l.fn.found.keys l.found.keys;
+  more : (to : ℕ) → is_among l.found.keys to ≡ (is_among l.fn.found.keys to || is_edge (take l.index l.edges) l.fn.node to);
+}

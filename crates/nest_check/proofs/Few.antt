@@ -1,0 +1,37 @@
+-- The words of all arrays of a program that keeps the rules are few.
+use Rattle.std.proofs.Common.{◌≡◌, ℕ, ◌+◌, ◌≤◌, Bool, true, false, if◌then◌else◌, nat_lt, List, [], ◌∷◌, sum, refl, ap, ◌∙◌, arith}
+use Rattle.std.specs.List.{fold}
+use Rattle.std.proofs.lemmas.Bool.{ltb-false}
+use Rattle.nest_syntax.specs.declared.tree.Decl.{Decl}
+use Rattle.nest_syntax.specs.declared.tree.Decl.TheVariants as decl
+use Rattle.nest_syntax.specs.declared.tree.Program.{Program}
+use Rattle.nest_syntax.specs.Arrays.{arrays_of, sizes_of}
+use Rattle.nest_check.specs.Rules.{most_words, sum_passes, lengths_outside}
+use Rattle.nest_check.specs.Kept.{KeepsRules}
+use Rattle.nest_check.proofs.Judged.{nil_right}
+
+fold_from : (n m : ℕ) (xs : List ℕ) → fold (λ a b. a + b) (n + m) xs ≡ n + fold (λ a b. a + b) m xs
+fold_from n m [] = refl
+fold_from n m (x ∷ xs) = ap (λ k. fold (λ a b. a + b) k xs) (moved n m x) ∙ fold_from n (m + x) xs
+  where
+    moved : (n m x : ℕ) → (n + m) + x ≡ n + (m + x)
+    moved n m x = omega arith
+
+sum_one_more : (x : ℕ) (xs : List ℕ) → sum (x ∷ xs) ≡ x + sum xs
+sum_one_more x xs = ap (λ k. fold (λ a b. a + b) k xs) (swapped x) ∙ fold_from x 0 xs
+  where
+    swapped : (x : ℕ) → 0 + x ≡ x + 0
+    swapped x = omega arith
+
+pub sum_within : (s : ℕ) (decls : List Decl) → s ≤ most_words → sum_passes s decls ≡ [] → s + sum (sizes_of (arrays_of decls)) ≤ most_words
+sum_within s [] within e = omega (arith, within)
+sum_within s (decl.Scalar line name value ∷ decls) within e = sum_within s decls within e
+sum_within s (decl.Array line name size fixed ∷ decls) within e = by (nat_lt most_words (s + size)) refl e (λ w r. sum_within (s + size) decls w r)
+  where
+    by : (over : Bool) → nat_lt most_words (s + size) ≡ over → (if over then line ∷ [] else sum_passes (s + size) decls) ≡ []
+        → (s + size ≤ most_words → sum_passes (s + size) decls ≡ [] → (s + size) + sum (sizes_of (arrays_of decls)) ≤ most_words) → s + sum (size ∷ sizes_of (arrays_of decls)) ≤ most_words
+    by true is e' rest = absurd (cc)
+    by false is e' rest = let all : (s + size) + sum (sizes_of (arrays_of decls)) ≤ most_words = rest (ltb-false most_words (s + size) is) e' in let one = sum_one_more size (sizes_of (arrays_of decls)) in omega (arith, all, one)
+
+pub few_words : (program : Program) → KeepsRules program → sum (sizes_of (arrays_of program.decls)) ≤ 1048576
+few_words program kept = let all = sum_within 0 program.decls (omega arith) (nil_right (lengths_outside program.decls) _ kept.lengths) in omega (arith, all)

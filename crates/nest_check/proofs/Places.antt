@@ -1,0 +1,104 @@
+-- Tables of the places at which names stand first in a list.
+use Rattle.std.proofs.Common.{◌≡◌, ◌≢◌, ℕ, zero, suc, ◌+◌, ◌<◌, ◌≤◌, ◌==◌, Bool, true, false, if◌then◌else◌, Option, Some, None, List, [], ◌∷◌, map, length, drop, replicate, get_or, refl, sym, ap, ◌∙◌, subst, arith, drop-cons, add-one, ◌⊎◌, inl, inr}
+use Rattle.std.specs.Prelude.{is_none, slice_set}
+use Rattle.std.specs.Option.{option_map}
+use Rattle.std.proofs.lemmas.Bool.Decides.{eqb_tells}
+use Rattle.std.proofs.lemmas.List.{drop_all, get_or-set_same, get_or-set_other, length-set, length-replicate}
+use Rattle.nest_syntax.specs.declared.tree.Decl.{Decl}
+use Rattle.nest_syntax.specs.Arrays.{Array, arrays_of, array_of}
+use Rattle.nest_check.specs.Declarations.{place_of_name}
+use Rattle.nest_check.specs.Tables.{at_name, place_noted, array_names}
+
+abbrev pub found_or : Option ℕ → Option ℕ → Option ℕ
+found_or None other = other
+found_or (Some p) other = Some p
+
+-- the first i names have their places
+pub record IsPlacing (names : List ℕ) (table : List (Option ℕ)) (i place : ℕ) : Type 0 where
+  pub at : place ≡ i
+  pub room : (k : ℕ) → k < length names → get_or names k 0 < length table
+  pub places : (name : ℕ) → found_or (at_name table name) (option_map (λ p. i + p) (place_of_name (drop i names) name)) ≡ place_of_name names name
+
+none_at : (n name : ℕ) → at_name (replicate n None) name ≡ None
+none_at zero name = refl
+none_at (suc n) zero = refl
+none_at (suc n) (suc name) = none_at n name
+
+from_zero : (o : Option ℕ) → option_map (λ p. 0 + p) o ≡ o
+from_zero None = refl
+from_zero (Some p) = ap Some (omega arith)
+
+pub placing_begins : (names : List ℕ) (n : ℕ) → ((k : ℕ) → k < length names → get_or names k 0 < n) → IsPlacing names (replicate n None) 0 0
+placing_begins names n room = record {
+  at = refl;
+  room = λ k there. subst (λ m. get_or names k 0 < m) (sym (length-replicate n None)) (room k there);
+  places = λ name. ap (λ o. found_or o (option_map (λ p. 0 + p) (place_of_name names name))) (none_at n name) ∙ from_zero (place_of_name names name);
+}
+
+shifted : (i : ℕ) (o : Option ℕ) → option_map (λ p. (i + 1) + p) o ≡ option_map (λ p. i + p) (option_map suc o)
+shifted i None = refl
+shifted i (Some p) = ap Some (omega arith)
+
+noted_same : (table : List (Option ℕ)) (name place : ℕ) (o rest : Option ℕ) → name < length table → at_name table name ≡ o → found_or (at_name (place_noted table name place) name) rest ≡ found_or (at_name table name) (Some place)
+noted_same table name place None rest there is =
+    ap (λ o. found_or (at_name (if is_none o then slice_set table name (Some place) else table) name) rest) is ∙ ap (λ o. found_or o rest) (get_or-set_same table name (Some place) None there) ∙ ap (λ o. found_or o (Some place)) (sym is)
+noted_same table name place (Some p) rest there is =
+    ap (λ o. found_or (at_name (if is_none o then slice_set table name (Some place) else table) name) rest) is ∙ ap (λ o. found_or o rest) is ∙ ap (λ o. found_or o (Some place)) (sym is)
+
+noted_other : (table : List (Option ℕ)) (here name place : ℕ) → name ≢ here → at_name (place_noted table here place) name ≡ at_name table name
+noted_other table here name place other = by (is_none (at_name table here))
+  where
+    by : (b : Bool) → at_name (if b then slice_set table here (Some place) else table) name ≡ at_name table name
+    by true = get_or-set_other table here name (Some place) None other
+    by false = refl
+
+noted_length : (table : List (Option ℕ)) (here place : ℕ) → length (place_noted table here place) ≡ length table
+noted_length table here place = by (is_none (at_name table here))
+  where
+    by : (b : Bool) → length (if b then slice_set table here (Some place) else table) ≡ length table
+    by true = length-set table here (Some place)
+    by false = refl
+
+pub placing_goes : (names : List ℕ) (table table' : List (Option ℕ)) (i place here : ℕ) → i < length names → here ≡ get_or names i 0 → table' ≡ place_noted table here place → IsPlacing names table i place → IsPlacing names table' (i + 1) (place + 1)
+placing_goes names table table' i place here there is after before = subst (λ t. IsPlacing names t (i + 1) (place + 1)) (sym after) (record {
+  at = ap (λ n. n + 1) before.at;
+  room = λ k there'. subst (λ m. get_or names k 0 < m) (sym (noted_length table here place)) (before.room k there');
+  places = λ name. by name (eqb_tells here name) ∙ before.places name;
+})
+  where
+    rest : drop i names ≡ here ∷ drop (i + 1) names
+    rest = drop-cons names i 0 there ∙ ap (λ x. x ∷ drop (suc i) names) (sym is) ∙ ap (λ k. here ∷ drop k names) (sym (add-one i))
+
+    inside : here < length table
+    inside = subst (λ n. n < length table) (sym is) (before.room i there)
+
+    by : (name : ℕ) → (((here == name) ≡ true) × (here ≡ name)) ⊎ (((here == name) ≡ false) × (here ≢ name))
+        → found_or (at_name (place_noted table here place) name) (option_map (λ p. (i + 1) + p) (place_of_name (drop (i + 1) names) name)) ≡ found_or (at_name table name) (option_map (λ p. i + p) (place_of_name (drop i names) name))
+    by name (inl e) =
+        subst (λ n. found_or (at_name (place_noted table here place) n) (option_map (λ p. (i + 1) + p) (place_of_name (drop (i + 1) names) n)) ≡ found_or (at_name table n) (Some place)) e.1 (noted_same table here place (at_name table here) _ inside refl)
+        ∙ ap (λ p. found_or (at_name table name) (Some p)) (before.at ∙ sym_zero i)
+        ∙ ap (λ b. found_or (at_name table name) (option_map (λ p. i + p) (if b then Some 0 else option_map suc (place_of_name (drop (i + 1) names) name)))) (sym e.0)
+        ∙ ap (λ ns. found_or (at_name table name) (option_map (λ p. i + p) (place_of_name ns name))) (sym rest)
+      where
+        sym_zero : (n : ℕ) → n ≡ n + 0
+        sym_zero n = omega arith
+    by name (inr e) =
+        ap (λ o. found_or o (option_map (λ p. (i + 1) + p) (place_of_name (drop (i + 1) names) name))) (noted_other table here name place (λ same. e.1 (sym same)))
+        ∙ ap (found_or (at_name table name)) (shifted i (place_of_name (drop (i + 1) names) name))
+        ∙ ap (λ b. found_or (at_name table name) (option_map (λ p. i + p) (if b then Some 0 else option_map suc (place_of_name (drop (i + 1) names) name)))) (sym e.0)
+        ∙ ap (λ ns. found_or (at_name table name) (option_map (λ p. i + p) (place_of_name ns name))) (sym rest)
+
+or_none : (o : Option ℕ) → found_or o None ≡ o
+or_none None = refl
+or_none (Some p) = refl
+
+pub placing_ends : (names : List ℕ) (table : List (Option ℕ)) (i place : ℕ) → length names ≤ i → IsPlacing names table i place → (name : ℕ) → at_name table name ≡ place_of_name names name
+placing_ends names table i place over placing name =
+    sym (or_none (at_name table name)) ∙ ap (λ ns. found_or (at_name table name) (option_map (λ p. i + p) (place_of_name ns name))) (sym (drop_all i names over)) ∙ placing.places name
+
+pub array_place : (decls : List Decl) (name : ℕ) → place_of_name (array_names decls) name ≡ array_of (arrays_of decls) name
+array_place decls name = of (arrays_of decls)
+  where
+    of : (arrays : List Array) → place_of_name (map (λ (a : Array). a.name) arrays) name ≡ array_of arrays name
+    of [] = refl
+    of (a ∷ arrays) = ap (λ o. if a.name == name then Some 0 else option_map suc o) (of arrays)

@@ -1,0 +1,22 @@
+//! The rules that a program keeps before it is run.
+//!
+//! In comes a program that the parser gave, out goes the same program as `Checked`, or the lowest rule that it breaks
+//! and the lowest line that breaks it.
+#![tactic(auto)]
+
+mod arrays;
+mod checked;
+mod checking;
+mod copies;
+mod entries;
+mod expressions;
+mod first_names;
+mod items;
+mod judge;
+mod parts;
+mod refused;
+mod tables;
+
+pub use checked::Checked;
+pub use checking::check;
+pub use refused::CheckRefused;
