@@ -14,3 +14,6 @@ mod written;
 
 pub use bounds::{BoundBreaches, bound_breaches};
 pub use locals::{DataLocals, data_locals};
+
+#[cfg(test)]
+mod tests;
