@@ -1,0 +1,43 @@
+ghost use Rattle.std.specs.Prelude.{◌≤◌, ◌<◌, ◌^◌, length, sum};
+ghost use Rattle.nest_syntax.specs.Arrays.{arrays_of, sizes_of};
+ghost use Rattle.word_store.specs.Memory.{most_words};
+ghost use Rattle.nest_data.specs.Data.{data_of, Tells};
+
+use crate::arrays::{lengths_of, names_of};
+use crate::progress::Progress;
+use crate::refused::DataRefused;
+use nest_syntax::Program;
+use std::alloc::Global;
+use word_store::Words;
+
+/// The opening words of a program's arrays, as data lines give them; the first line has the number `first_line`. An
+/// array without a line is all zeros.
+///
+/// `Line` comes exactly where a line is faulty, with the first such line and the first of its faults. All memory is
+/// taken before the first line is read.
+pub fn read_program_data(
+    alloc: Global,
+    bytes: &[u8],
+    first_line: u32,
+    program: &Program,
+) -> Result<Words, DataRefused>
+    requires small { length bytes.now ≤ 33554432 }
+    requires line { first_line ≤ 33554433 }
+    requires few { length (arrays_of program.now.decls) < 2 ^ 32 }
+    requires room { sum (sizes_of (arrays_of program.now.decls)) ≤ most_words }
+    ensures { Tells (data_of program.now.names (arrays_of program.now.decls) first_line bytes.now) result }
+{
+    let decls = program.decls.as_slice();
+    let arrays = names_of(alloc, decls)?;
+    let lengths = lengths_of(alloc, decls)?;
+    let progress = Progress {
+        given: vec![in alloc; false; arrays.len()]?,
+        words: Words::zeros(alloc, lengths.as_slice())?,
+    };
+    progress.read_lines(
+        program.names.as_slice(),
+        arrays.as_slice(),
+        bytes,
+        first_line,
+    )
+}
