@@ -1,0 +1,58 @@
+-- The loops and the expressions of a program, each with its line.
+use Rattle.std.specs.Prelude.{ℕ, suc, ◌-◌, max, List, [], ◌∷◌, ◌++◌, map}
+use Rattle.nest_syntax.specs.declared.names.Line.{Line}
+use Rattle.nest_syntax.specs.declared.tree.Expr.{Expr, fold-Expr}
+use Rattle.nest_syntax.specs.declared.tree.Expr.TheOpen.{Expr-F}
+use Rattle.nest_syntax.specs.declared.tree.Loop.{Loop}
+use Rattle.nest_syntax.specs.declared.tree.Arm.{Arm}
+use Rattle.nest_syntax.specs.declared.tree.Stmt.{Stmt}
+use Rattle.nest_syntax.specs.declared.tree.Stmt.TheOpen.{Stmt-F, Arm-F, Loop-F}
+use Rattle.nest_syntax.specs.declared.tree.Stmt.TheFolds.{fold-Stmt, fold-Arm, fold-Loop}
+use Rattle.nest_check.specs.Joined.{joined}
+
+-- one layer of the depth of an expression: a number or a name 1, any other one more than its deepest part
+abbrev pub depth_node : Expr-F ℕ → ℕ
+depth_node (Expr-F.Number n) = 1
+depth_node (Expr-F.Scalar name) = 1
+depth_node (Expr-F.Word array place) = suc place
+depth_node (Expr-F.Unary op part) = suc part
+depth_node (Expr-F.Binary op left right) = suc (max left right)
+depth_node (Expr-F.Choice test first second) = suc (max test (max first second))
+
+abbrev pub depth : Expr → ℕ
+depth = fold-Expr ℕ depth_node
+
+-- A loop with its step and the number of levels that loops may still have here, or an expression. The line is that of
+-- the innermost statement, arm or loop.
+pub data Part : Type 0 where
+  ALoop : Line → ℕ → ℕ → Part
+  AnExpression : Line → Expr → Part
+
+-- the parts of a statement, from the number of levels that its loops may still have
+abbrev pub Parts_at : Type 0
+Parts_at = ℕ → List Part
+
+abbrev pub all_at : List Parts_at → Parts_at
+all_at parts levels = joined (map (λ (p : Parts_at). p levels) parts)
+
+abbrev pub parts_node : Stmt-F Parts_at Parts_at Parts_at → Parts_at
+parts_node (Stmt-F.Declare line name value) levels = AnExpression line value ∷ []
+parts_node (Stmt-F.Assign line name op value) levels = AnExpression line value ∷ []
+parts_node (Stmt-F.Write line array place op value) levels = AnExpression line place ∷ AnExpression line value ∷ []
+parts_node (Stmt-F.If arms other) levels = all_at arms levels ++ all_at other levels
+parts_node (Stmt-F.Loop l) levels = l levels
+
+abbrev pub arm_parts_node : Arm-F Parts_at Parts_at Parts_at → Parts_at
+arm_parts_node arm levels = AnExpression arm.line arm.test ∷ all_at arm.body levels
+
+abbrev pub loop_parts_node : Loop-F Parts_at Parts_at Parts_at → Parts_at
+loop_parts_node l levels = ALoop l.line l.step levels ∷ AnExpression l.line l.low ∷ AnExpression l.line l.high ∷ all_at l.body (levels - 1)
+
+abbrev pub parts : Stmt → Parts_at
+parts = fold-Stmt Parts_at Parts_at Parts_at parts_node arm_parts_node loop_parts_node
+
+abbrev pub parts_in_arm : Arm → Parts_at
+parts_in_arm = fold-Arm Parts_at Parts_at Parts_at parts_node arm_parts_node loop_parts_node
+
+abbrev pub parts_in_loop : Loop → Parts_at
+parts_in_loop = fold-Loop Parts_at Parts_at Parts_at parts_node arm_parts_node loop_parts_node

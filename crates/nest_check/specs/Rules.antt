@@ -1,0 +1,114 @@
+-- Rules of the checker. Each is the list of the lines that break it; the program keeps it where that list is empty.
+use Rattle.std.specs.Prelude.{ℕ, ◌+◌, Bool, false, ◌||◌, if◌then◌else◌, nat_lt, ◌==◌, List, [], ◌∷◌, ◌++◌, map, take, drop, length}
+use Rattle.nest_syntax.specs.declared.names.Line.{Line}
+use Rattle.nest_syntax.specs.declared.tree.Decl.{Decl}
+use Rattle.nest_syntax.specs.declared.tree.Decl.TheVariants as decl
+use Rattle.nest_syntax.specs.declared.tree.Loop.{Loop}
+use Rattle.nest_syntax.specs.declared.tree.Program.{Program}
+use Rattle.nest_check.specs.Joined.{joined}
+use Rattle.nest_check.specs.Declarations.{Declaration, first_of_each, lines_of}
+use Rattle.nest_check.specs.Entries.{items_of, statements_of, declarations_in, invocations_in, scheduler_scalars}
+use Rattle.nest_check.specs.Parts.{Part, ALoop, AnExpression, depth, parts_in_loop}
+
+-- the first behind so many lines, where there are more
+abbrev pub first_behind : ℕ → List Line → List Line
+first_behind many lines = take 1 (drop many lines)
+
+abbrev pub array_lines : List Decl → List Line
+array_lines [] = []
+array_lines (decl.Array line name length fixed ∷ decls) = line ∷ array_lines decls
+array_lines (decl.Scalar line name value ∷ decls) = array_lines decls
+
+abbrev pub region_lines : List Loop → List Line
+region_lines regions = map (λ (l : Loop). l.line) regions
+
+-- There are at most 64 arrays and at most 64 regions: broken by the 65th of each.
+abbrev pub beyond_64 : Program → List Line
+beyond_64 program = first_behind 64 (array_lines program.decls) ++ first_behind 64 (region_lines program.regions)
+
+-- the most words of all arrays
+abbrev pub most_words : ℕ
+most_words = 1048576
+
+-- whether a number is outside 1 to a bound
+abbrev pub is_outside : ℕ → ℕ → Bool
+is_outside most n = n == 0 || nat_lt most n
+
+abbrev pub lengths_outside : List Decl → List Line
+lengths_outside [] = []
+lengths_outside (decl.Array line name length fixed ∷ decls) = if is_outside most_words length then line ∷ lengths_outside decls else lengths_outside decls
+lengths_outside (decl.Scalar line name value ∷ decls) = lengths_outside decls
+
+-- the first declaration with which the sum of the lengths passes the bound, from the sum of those before
+abbrev pub sum_passes : ℕ → List Decl → List Line
+sum_passes sum [] = []
+sum_passes sum (decl.Array line name length fixed ∷ decls) = if nat_lt most_words (sum + length) then line ∷ [] else sum_passes (sum + length) decls
+sum_passes sum (decl.Scalar line name value ∷ decls) = sum_passes sum decls
+
+-- Each length is 1 to 1,048,576, and so is their sum.
+abbrev pub wrong_lengths : Program → List Line
+wrong_lengths program = lengths_outside program.decls ++ sum_passes 0 program.decls
+
+-- the lines of the parts that fail a test
+abbrev pub part_line : Part → Line
+part_line (ALoop line step levels) = line
+part_line (AnExpression line e) = line
+
+abbrev pub lines_where : (Part → Bool) → List Part → List Line
+lines_where test [] = []
+lines_where test (part ∷ parts) = if test part then part_line part ∷ lines_where test parts else lines_where test parts
+
+-- the loops and expressions of a program; loops may have four levels
+abbrev pub parts_of : Program → List Part
+parts_of program = joined (map (λ region. parts_in_loop region 4) program.regions)
+
+abbrev pub has_wrong_step : Part → Bool
+has_wrong_step (ALoop line step levels) = is_outside 65536 step
+has_wrong_step (AnExpression line e) = false
+
+-- A step is 1 to 65,536.
+abbrev pub wrong_steps : Program → List Line
+wrong_steps program = lines_where has_wrong_step (parts_of program)
+
+abbrev pub has_no_level : Part → Bool
+has_no_level (ALoop line step levels) = levels == 0
+has_no_level (AnExpression line e) = false
+
+-- Loops stand at depth 1 to 4.
+abbrev pub deep_loops : Program → List Line
+deep_loops program = lines_where has_no_level (parts_of program)
+
+abbrev pub has_many_items : Loop → Bool
+has_many_items region = nat_lt 64 (length (items_of region.body))
+
+abbrev pub large_regions_among : List Loop → List Line
+large_regions_among [] = []
+large_regions_among (region ∷ regions) = if has_many_items region then region.line ∷ large_regions_among regions else large_regions_among regions
+
+-- A region has at most 64 items, an `if` and its inner items counted each.
+abbrev pub large_regions : Program → List Line
+large_regions program = large_regions_among program.regions
+
+-- the locals of an invocation, its loop's variable among them: the first declaration of each name
+abbrev pub locals_of : Loop → List Declaration
+locals_of l = first_of_each ((l.name, l.line) ∷ declarations_in (statements_of l.body))
+
+abbrev pub is_large_body : Loop → Bool
+is_large_body l = nat_lt 1024 (length (statements_of l.body)) || nat_lt 16 (length (locals_of l))
+
+-- the lines of the loops whose body is too large
+abbrev pub large_among : List Loop → List Line
+large_among [] = []
+large_among (l ∷ loops) = if is_large_body l then l.line ∷ large_among loops else large_among loops
+
+-- A body has at most 1,024 statements and at most 16 names of locals.
+abbrev pub large_bodies : Program → List Line
+large_bodies program = large_among (joined (map (λ (region : Loop). invocations_in (items_of region.body)) program.regions))
+
+abbrev pub is_deep : Part → Bool
+is_deep (ALoop line step levels) = false
+is_deep (AnExpression line e) = nat_lt 16 (depth e)
+
+-- An expression has depth at most 16, and a program has at most 32 names of scheduler scalars.
+abbrev pub deep_expressions : Program → List Line
+deep_expressions program = lines_where is_deep (parts_of program) ++ first_behind 32 (lines_of (first_of_each (scheduler_scalars program)))
