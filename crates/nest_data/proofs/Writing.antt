@@ -1,10 +1,10 @@
 -- Values that are written one after another are the words of an array.
-use Rattle.std.proofs.Common.{◌≡◌, ℕ, zero, suc, ◌+◌, ◌<◌, ◌≤◌, ◌==◌, ℤ, pos, Bool, true, false, cond, Option, Some, None, Result, Ok, Err, List, [], ◌∷◌, ◌++◌, length, take, drop, sum, set, slice_index_or, if◌then◌else◌, refl, sym, ap, ◌∙◌, arith}
+use Rattle.std.proofs.Common.{◌≡◌, ℕ, suc, ◌+◌, ◌<◌, ◌≤◌, ◌==◌, ℤ, pos, Bool, true, false, Option, Some, None, Result, Ok, Err, List, [], ◌∷◌, ◌++◌, length, take, drop, sum, set, slice_index_or, if◌then◌else◌, refl, sym, ap, ◌∙◌, arith}
 use Rattle.std.specs.Option.{option_map, option_map_or, option_and_then}
 use Rattle.std.proofs.lemmas.List.{take-append-drop, append_assoc, drop-set-lt, take_more_set, length-set}
 use Rattle.std.proofs.lemmas.List.Sums.{sum_by_more_le}
 use Rattle.std.proofs.lemmas.Bool.{lt-ltb, eqb-true}
-use Rattle.nest_syntax.specs.Arrays.{place_in, word_number, with_word}
+use Rattle.nest_syntax.specs.Arrays.{word_number, with_word}
 use Rattle.word_store.specs.Memory.{Memory, IsSound, number_at, stored}
 use Rattle.nest_data.specs.Values.{value_of}
 use Rattle.nest_data.specs.Data.{values_of, counted, with_array, and_then}

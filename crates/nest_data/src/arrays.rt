@@ -56,9 +56,7 @@ fn is_named(names: &[Name], name: u32, word: &[u8]) -> bool
 fn first_named(names: &[Name], arrays: &[u32], word: &[u8]) -> Option<usize>
     ensures { result ≡ array_named names.now arrays.now word.now }
 {
-    arrays
-        .iter()
-        .position(|name| is_named(names, *name, word))
+    arrays.iter().position(|name| is_named(names, *name, word))
 }
 
 /// The number of the first array whose name is this word.

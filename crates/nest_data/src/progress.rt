@@ -1,23 +1,24 @@
 //! Data lines, read one by one into the words.
-ghost use Rattle.std.specs.Prelude.{◌≡◌, ◌<◌, ◌≤◌, ◌^◌, Ok, length, OnOk, slice_index_or};
+ghost use Rattle.std.specs.Prelude.{◌≡◌, ◌<◌, ◌≤◌, ◌^◌, Ok, length, sum, IfOk, slice_index_or};
 ghost use Rattle.std.specs.Result.{result_map_both};
-ghost use Rattle.word_store.specs.Memory.{IsSound};
+ghost use Rattle.word_store.specs.Memory.{IsSound, most_words};
 ghost use Rattle.nest_data.specs.Lines.{lines_of, words_in, words_of};
-ghost use Rattle.nest_data.specs.Data.{and_then, counted, values_of, with_array, behind_values, behind_words, outcome, Tells};
+ghost use Rattle.nest_data.specs.Data.{and_then, counted, values_of, with_array, behind_values, behind_words, opening, outcome, Tells};
 ghost use Rattle.nest_data.specs.Progress.{read_of};
 
 use crate::arrays::array_named;
 use crate::lines::{is_blank, next_line, next_word, without_return};
 use crate::refused::{DataKind, DataRefused};
 use crate::values::value_of;
-use nest_syntax::Name;
+use nest_syntax::{Name, NoMemory};
+use std::alloc::Global;
 use word_store::Words;
 
 /// What the lines so far gave: which arrays had a line, and the words.
 #[derive(Drop)]
 pub(crate) struct Progress {
-    pub given: Vec<bool>,
-    pub words: Words,
+    given: Vec<bool>,
+    words: Words,
 }
 
 fn length_of(words: &Words, array: u32) -> u64
@@ -56,6 +57,19 @@ fn read_values(words: &mut Words, array: u32, bytes: &[u8]) -> Result<(), DataKi
 }
 
 impl Progress {
+    /// Before the first line: no array is given, and all words of arrays of these lengths are 0.
+    pub fn open(alloc: Global, lengths: &[u64]) -> Result<Progress, NoMemory>
+        requires { sum lengths.now ≤ most_words }
+        ensures read { IfOk result (λ progress. read_of progress ≡ opening lengths.now) }
+        ensures sizes { IfOk result (λ progress. progress.words.sizes ≡ lengths.now) }
+    {
+        let words = Words::zeros(alloc, lengths)?;
+        Ok(Progress {
+            given: vec![in alloc; false; lengths.len()]?,
+            words,
+        })
+    }
+
     fn read_array(&mut self, array: u32, values: &[u8]) -> Result<(), DataKind>
         requires there { array < length self.old.words.sizes }
         requires known { array < length self.old.given.items }
@@ -106,7 +120,8 @@ impl Progress {
         requires known { length self.given.items ≡ length arrays.now }
         requires small { length bytes.now ≤ 33554432 }
         requires line { first_line ≤ 33554433 }
-        ensures { Tells (outcome names.now arrays.now (read_of self) first_line (lines_of bytes.now)) result }
+        ensures told { Tells (outcome names.now arrays.now (read_of self) first_line (lines_of bytes.now)) result }
+        ensures sizes { IfOk result (λ words. words.sizes ≡ self.words.sizes) }
     {
         let mut line = first_line;
         let mut rest = bytes;

@@ -1,4 +1,4 @@
-ghost use Rattle.std.specs.Prelude.{◌≤◌, ◌<◌, ◌^◌, length, sum};
+ghost use Rattle.std.specs.Prelude.{◌≡◌, ◌≤◌, ◌<◌, ◌^◌, length, sum, IfOk};
 ghost use Rattle.nest_syntax.specs.Arrays.{arrays_of, sizes_of};
 ghost use Rattle.word_store.specs.Memory.{most_words};
 ghost use Rattle.nest_data.specs.Data.{data_of, Tells};
@@ -6,6 +6,7 @@ ghost use Rattle.nest_data.specs.Data.{data_of, Tells};
 use crate::arrays::{lengths_of, names_of};
 use crate::progress::Progress;
 use crate::refused::DataRefused;
+use nest_check::Checked;
 use nest_syntax::Program;
 use std::alloc::Global;
 use word_store::Words;
@@ -25,19 +26,32 @@ pub fn read_program_data(
     requires line { first_line ≤ 33554433 }
     requires few { length (arrays_of program.now.decls) < 2 ^ 32 }
     requires room { sum (sizes_of (arrays_of program.now.decls)) ≤ most_words }
-    ensures { Tells (data_of program.now.names (arrays_of program.now.decls) first_line bytes.now) result }
+    ensures told { Tells (data_of program.now.names (arrays_of program.now.decls) first_line bytes.now) result }
+    ensures sizes { IfOk result (λ words. words.sizes ≡ sizes_of (arrays_of program.now.decls)) }
 {
     let decls = program.decls.as_slice();
     let arrays = names_of(alloc, decls)?;
     let lengths = lengths_of(alloc, decls)?;
-    let progress = Progress {
-        given: vec![in alloc; false; arrays.len()]?,
-        words: Words::zeros(alloc, lengths.as_slice())?,
-    };
+    let progress = Progress::open(alloc, lengths.as_slice())?;
     progress.read_lines(
         program.names.as_slice(),
         arrays.as_slice(),
         bytes,
         first_line,
     )
+}
+
+/// The same of a checked program.
+pub fn read_data(
+    alloc: Global,
+    bytes: &[u8],
+    first_line: u32,
+    checked: &Checked,
+) -> Result<Words, DataRefused>
+    requires small { length bytes.now ≤ 33554432 }
+    requires line { first_line ≤ 33554433 }
+    ensures told { Tells (data_of checked.now.names (arrays_of checked.now.decls) first_line bytes.now) result }
+    ensures sizes { IfOk result (λ words. words.sizes ≡ sizes_of (arrays_of checked.now.decls)) }
+{
+    read_program_data(alloc, bytes, first_line, checked.program())
 }

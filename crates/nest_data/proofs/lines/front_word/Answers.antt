@@ -1,4 +1,4 @@
-use Rattle.std.proofs.Common.{◌≡◌, ◌∷◌, List, ℕ, take, sym, ap, ◌∙◌}
+use Rattle.std.proofs.Common.{◌∷◌, List, ℕ, take, sym, ap, ◌∙◌}
 use Rattle.std.proofs.lemmas.List.Quantifiers.{position-Some}
 use Rattle.nest_data.specs.Lines.{is_separator, words_in}
 use Rattle.nest_data.proofs.Fronts.{none_pass, first_word, last_word, behind}

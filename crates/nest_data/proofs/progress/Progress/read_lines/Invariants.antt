@@ -8,6 +8,7 @@ use Rattle.nest_data.proofs.progress.Progress.read_lines.Given as goal
 abbrev pub invariant-lines : goal.invariant-lines
 invariant-lines l = record {
   same : outcome l.names l.arrays (read_of l.self) l.line (lines_of l.rest) ≡ outcome l.names l.arrays (read_of l.fn.self) l.first_line (lines_of l.bytes);
+  sizes : l.self.words.sizes ≡ l.fn.self.words.sizes;
   there : length l.self.words.sizes ≡ length l.arrays;
   known : length l.self.given.items ≡ length l.arrays;
   few : l.line + length l.rest ≤ l.first_line + length l.bytes;
