@@ -1,4 +1,7 @@
 //! Data lines: the opening words of a program's arrays, read from text and printed as text.
+//!
+//! In come the bytes of the data lines and a program, out go the words of its arrays, or the first faulty line with its
+//! first fault. Lines are read in one pass, and values are written in their places.
 #![tactic(auto)]
 
 mod arrays;
@@ -10,7 +13,7 @@ mod refused;
 mod values;
 
 pub use print::{print_checked_words, print_words};
-pub use read::{read_data, read_program_data};
+pub use read::{read_data, read_program_data, words_are_of_lines};
 pub use refused::{DataKind, DataRefused};
 
 #[cfg(test)]

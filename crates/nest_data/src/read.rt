@@ -1,7 +1,9 @@
-ghost use Rattle.std.specs.Prelude.{◌≡◌, ◌≤◌, ◌<◌, ◌^◌, length, sum, IfOk};
-ghost use Rattle.nest_syntax.specs.Arrays.{arrays_of, sizes_of};
-ghost use Rattle.word_store.specs.Memory.{most_words};
+ghost use Rattle.std.specs.Prelude.{◌≡◌, ◌≤◌, ◌<◌, ◌^◌, ℕ, List, Ok, length, sum, IfOk};
+ghost use Rattle.nest_syntax.specs.Arrays.{Array, arrays_of, sizes_of};
+ghost use Rattle.word_store.specs.Memory.{Memory, most_words};
 ghost use Rattle.nest_data.specs.Data.{data_of, Tells};
+ghost use Rattle.nest_data.specs.Lines.{lines_of};
+ghost use Rattle.nest_data.specs.OfLines.{AreOfLines};
 
 use crate::arrays::{lengths_of, names_of};
 use crate::progress::Progress;
@@ -55,3 +57,9 @@ pub fn read_data(
 {
     read_program_data(alloc, bytes, first_line, checked.program())
 }
+
+/// Where no line is faulty, each array has the values of its line, and zeros where it has none.
+pub fn words_are_of_lines()
+    ensures { (names : List (List ℕ)) (arrays : List Array) (line : ℕ) (bytes : List ℕ) (memory : Memory)
+        → data_of names arrays line bytes ≡ Ok memory → AreOfLines names arrays (lines_of bytes) memory }
+{}
