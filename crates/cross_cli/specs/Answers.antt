@@ -5,7 +5,8 @@ use Rattle.nest_syntax.specs.Arrays.{arrays_of, sizes_of}
 use Rattle.nest_syntax.specs.Outcome.{Ending, Done, TrappedAt, ending}
 use Rattle.nest_io.specs.declared.transfer.TheConstants.{MOST_BYTES}
 use Rattle.nest_parse.specs.First.{IsFirst}
-use Rattle.nest_report.specs.Text.{array_lines, trap_line}
+use Rattle.nest_data.specs.Text.{array_lines}
+use Rattle.nest_report.specs.Text.{trap_line}
 use Rattle.cross_cli.specs.declared.status.Status.{Status}
 use Rattle.cross_cli.specs.declared.status.Status.TheVariants as status
 use Rattle.cross_cli.specs.declared.words.Action.{Action}

@@ -2,7 +2,8 @@
 use Rattle.std.specs.Prelude.{ℕ, List, [], ◌++◌}
 use Rattle.progress_board.specs.declared.facts.Ending.{Ending}
 use Rattle.progress_board.specs.declared.facts.Ending.TheVariants.{Unfinished, Done, Trapped}
-use Rattle.nest_report.specs.Text.{array_lines, trap_line}
+use Rattle.nest_data.specs.Text.{array_lines}
+use Rattle.nest_report.specs.Text.{trap_line}
 use Rattle.domore_engine.specs.Engine.{Engine, ending_of, words_of, facts_of}
 use Rattle.cross_cli.specs.declared.status.Status.TheVariants as status
 use Rattle.cross_cli.specs.Report.{domore_report}

@@ -1,6 +1,6 @@
 ghost use Rattle.std.specs.Prelude.{◌≡◌, true, IfOk};
 ghost use Rattle.nest_syntax.specs.FirstForm.{IsFirstForm};
-ghost use Rattle.nest_report.specs.Text.{array_lines};
+ghost use Rattle.nest_data.specs.Text.{array_lines};
 ghost use Rattle.domore_engine.specs.Engine.{is_finished, ending_of};
 ghost use Rattle.progress_board.specs.Runs.{IsLegal};
 ghost use Rattle.domore_engine.specs.Engine.{opening, step};
@@ -13,8 +13,9 @@ use crate::report::domore_report;
 use crate::status::Status;
 use domore_engine::Domore;
 use lone_crew::lone_run;
+use nest_data::print_words;
 use nest_mean::Job;
-use nest_report::{print_place, print_words};
+use nest_report::print_place;
 use nest_syntax::NoMemory;
 use progress_board::{Ending, Engine, Machine, Options, Sign};
 use std::alloc::Global;

@@ -8,9 +8,10 @@ ghost use Rattle.cross_cli.specs.Answers.{refusal, printed, acted, zeros_of, Ans
 use crate::alone::alone;
 use crate::status::Status;
 use crate::words::Action;
+use nest_data::print_words;
 use nest_mean::{Job, Outcome, run_plain};
 use nest_parse::{FirstRefused, parse_first};
-use nest_report::{print_place, print_words};
+use nest_report::print_place;
 use nest_syntax::{NoMemory, Program};
 use std::alloc::Global;
 use std::marker::Model;

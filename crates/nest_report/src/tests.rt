@@ -1,10 +1,6 @@
-ghost use Rattle.std.specs.Prelude.{◌≡◌};
-
 use super::*;
-use nest_syntax::{Cause, Decl, Line, Place};
-use sqlite_items::Items;
+use nest_syntax::{Cause, Line, Place};
 use std::test::Fail;
-use word_store::Words;
 
 #[test]
 fn a_trap_has_its_cause_line_and_iteration(rt: HostRuntime) -> Result<(), Fail> {
@@ -35,38 +31,5 @@ fn a_trap_has_its_cause_line_and_iteration(rt: HostRuntime) -> Result<(), Fail> 
         let text = print_place(rt.alloc(), &place)?;
         assert_eq!(rt; text.as_slice(), wanted.as_bytes());
     }
-    Ok(())
-}
-
-fn array(name: u32, length: u64, fixed: bool) -> Decl
-    ensures { result ≡ Decl.Array (record { 0 = 1 }) name length fixed }
-{
-    Decl::Array {
-        line: Line(1),
-        name,
-        length,
-        fixed,
-    }
-}
-
-#[test]
-fn arrays_that_are_const_have_no_line(rt: HostRuntime) -> Result<(), Fail> {
-    let alloc = rt.alloc();
-    let names = [
-        Items::from_slice(alloc, b"a")?,
-        Items::from_slice(alloc, b"ix")?,
-        Items::from_slice(alloc, b"long_name")?,
-    ];
-    let decls = [array(0, 2, false), array(1, 1, true), array(2, 3, false)];
-    let mut words = Words::zeros(alloc, &[2, 1, 3])?;
-    words.store(0, 1, -12);
-    words.store(1, 0, 5);
-    words.store(2, 0, i64::MIN);
-    words.store(2, 2, 7);
-    let text = print_words(alloc, &words, &names, &decls)?;
-    assert_eq!(rt;
-        text.as_slice(),
-        b"a 0 -12\nlong_name -9223372036854775808 0 7\n".as_slice()
-    );
     Ok(())
 }

@@ -1,10 +1,11 @@
-ghost use Rattle.std.specs.Prelude.{◌≡◌, ◌+◌, ◌++◌, ◌^◌, ◌<◌, length, IfOk, OnOk, slice_index_or, []};
+ghost use Rattle.std.specs.Prelude.{◌≡◌, ◌+◌, ◌++◌, ◌^◌, ◌<◌, length, IfOk, OnOk};
 ghost use Rattle.nest_syntax.specs.Arrays.{arrays_of, sizes_of};
-ghost use Rattle.nest_report.specs.Text.{array_line, array_lines, value_text};
+ghost use Rattle.nest_data.specs.Text.{array_line, array_lines, value_text};
 
+use crate::arrays::name_bytes;
 use itoa::Buffer;
+use nest_check::Checked;
 use nest_syntax::{Decl, Name, NoMemory};
-use sqlite_items::Items;
 use std::alloc::Global;
 use word_store::Words;
 
@@ -33,15 +34,6 @@ pub fn print_words(
     Ok(text)
 }
 
-fn name_bytes(names: &[Name], name: u32) -> &[u8]
-    ensures { result.now ≡ slice_index_or names.now name [] }
-{
-    match names.get(name as usize) {
-        Some(bytes) => bytes.as_slice(),
-        None => &[],
-    }
-}
-
 fn add_line(text: &mut Vec<u8>, name: &[u8], values: &[i64]) -> Result<(), NoMemory>
     ensures { OnOk result (text.new.items ≡ text.old.items ++ array_line name.now values.now) }
 {
@@ -53,4 +45,22 @@ fn add_line(text: &mut Vec<u8>, name: &[u8], values: &[i64]) -> Result<(), NoMem
     }
     text.push(b'\n')?;
     Ok(())
+}
+
+/// The same of a checked program.
+pub fn print_checked_words(
+    alloc: Global,
+    words: &Words,
+    checked: &Checked,
+) -> Result<Vec<u8>, NoMemory>
+    requires { words.now.sizes ≡ sizes_of (arrays_of checked.now.decls) }
+    ensures { IfOk result (λ text. text.items ≡ array_lines checked.now.names words.now 0 checked.now.decls) }
+{
+    let program = checked.program();
+    print_words(
+        alloc,
+        words,
+        program.names.as_slice(),
+        program.decls.as_slice(),
+    )
 }

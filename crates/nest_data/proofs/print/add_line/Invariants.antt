@@ -1,7 +1,7 @@
 use Rattle.std.proofs.Common.{◌≡◌, ◌++◌, [], ◌∷◌, drop}
 use Rattle.std.specs.List.{flat_map}
-use Rattle.nest_report.specs.Text.{array_line, value_text}
-use Rattle.nest_report.proofs.arrays.add_line.Given as goal
+use Rattle.nest_data.specs.Text.{array_line, value_text}
+use Rattle.nest_data.proofs.print.add_line.Given as goal
 
 -- what is written and what is left to write is the old text and the line
 abbrev pub invariant-loop-value : goal.invariant-loop-value

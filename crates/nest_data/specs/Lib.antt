@@ -1,0 +1,6 @@
+pub mod Lines
+pub mod Values
+pub mod Data
+pub mod OfLines
+pub mod Progress
+pub mod Text

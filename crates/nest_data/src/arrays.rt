@@ -1,0 +1,72 @@
+//! The arrays of a program, by their names and lengths.
+ghost use Rattle.std.specs.Prelude.{◌≡◌, ◌<◌, ◌^◌, [], length, IfOk, IfSome, slice_index_or};
+ghost use Rattle.std.specs.List.{position};
+ghost use Rattle.std.specs.Str.{bytes_eq};
+ghost use Rattle.nest_syntax.specs.Arrays.{arrays_of, sizes_of};
+ghost use Rattle.nest_data.specs.Data.{array_names, array_named};
+
+use nest_syntax::{Decl, Name, NoMemory};
+use sqlite_items::Items;
+use std::alloc::Global;
+
+/// The lengths of the declared arrays, in order.
+pub(crate) fn lengths_of(alloc: Global, decls: &[Decl]) -> Result<Vec<u64>, NoMemory>
+    ensures { IfOk result (λ lengths. lengths.items ≡ sizes_of (arrays_of decls.now)) }
+{
+    let mut lengths = Vec::new(alloc);
+    for decl in decls {
+        match decl {
+            Decl::Array { length, .. } => lengths.push(*length)?,
+            Decl::Scalar { .. } => {}
+        }
+    }
+    Ok(lengths)
+}
+
+/// The names of the declared arrays, in order.
+pub(crate) fn names_of(alloc: Global, decls: &[Decl]) -> Result<Vec<u32>, NoMemory>
+    ensures { IfOk result (λ names. names.items ≡ array_names (arrays_of decls.now)) }
+{
+    let mut names = Vec::new(alloc);
+    for decl in decls {
+        match decl {
+            Decl::Array { name, .. } => names.push(*name)?,
+            Decl::Scalar { .. } => {}
+        }
+    }
+    Ok(names)
+}
+
+/// The bytes of a name. A name that isn't there has none.
+pub(crate) fn name_bytes(names: &[Name], name: u32) -> &[u8]
+    ensures { result.now ≡ slice_index_or names.now name [] }
+{
+    match names.get(name as usize) {
+        Some(bytes) => bytes.as_slice(),
+        None => &[],
+    }
+}
+
+fn is_named(names: &[Name], name: u32, word: &[u8]) -> bool
+    ensures { result ≡ bytes_eq (slice_index_or names.now name []) word.now }
+{
+    name_bytes(names, name) == word
+}
+
+fn first_named(names: &[Name], arrays: &[u32], word: &[u8]) -> Option<usize>
+    ensures { result ≡ array_named names.now arrays.now word.now }
+{
+    arrays.iter().position(|name| is_named(names, *name, word))
+}
+
+/// The number of the first array whose name is this word.
+pub(crate) fn array_named(names: &[Name], arrays: &[u32], word: &[u8]) -> Option<u32>
+    requires { length arrays.now < 2 ^ 32 }
+    ensures number { result ≡ array_named names.now arrays.now word.now }
+    ensures there { IfSome result (λ n. n < length arrays.now) }
+{
+    match first_named(names, arrays, word) {
+        Some(number) => Some(number as u32),
+        None => None,
+    }
+}

@@ -1,0 +1,20 @@
+//! Data lines: the opening words of a program's arrays, read from text and printed as text.
+//!
+//! In come the bytes of the data lines and a program, out go the words of its arrays, or the first faulty line with its
+//! first fault. Lines are read in one pass, and values are written in their places.
+#![tactic(auto)]
+
+mod arrays;
+mod lines;
+mod print;
+mod progress;
+mod read;
+mod refused;
+mod values;
+
+pub use print::{print_checked_words, print_words};
+pub use read::{read_data, read_program_data, words_are_of_lines};
+pub use refused::{DataKind, DataRefused};
+
+#[cfg(test)]
+mod tests;

@@ -1,0 +1,65 @@
+ghost use Rattle.std.specs.Prelude.{◌≡◌, ◌≤◌, ◌<◌, ◌^◌, ℕ, List, Ok, length, sum, IfOk};
+ghost use Rattle.nest_syntax.specs.Arrays.{Array, arrays_of, sizes_of};
+ghost use Rattle.word_store.specs.Memory.{Memory, most_words};
+ghost use Rattle.nest_data.specs.Data.{data_of, Tells};
+ghost use Rattle.nest_data.specs.Lines.{lines_of};
+ghost use Rattle.nest_data.specs.OfLines.{AreOfLines};
+
+use crate::arrays::{lengths_of, names_of};
+use crate::progress::Progress;
+use crate::refused::DataRefused;
+use nest_check::Checked;
+use nest_syntax::Program;
+use std::alloc::Global;
+use word_store::Words;
+
+/// The opening words of a program's arrays, as data lines give them; the first line has the number `first_line`. An
+/// array without a line is all zeros.
+///
+/// `Line` comes exactly where a line is faulty, with the first such line and the first of its faults. All memory is
+/// taken before the first line is read.
+pub fn read_program_data(
+    alloc: Global,
+    bytes: &[u8],
+    first_line: u32,
+    program: &Program,
+) -> Result<Words, DataRefused>
+    requires small { length bytes.now ≤ 33554432 }
+    requires line { first_line ≤ 33554433 }
+    requires few { length (arrays_of program.now.decls) < 2 ^ 32 }
+    requires room { sum (sizes_of (arrays_of program.now.decls)) ≤ most_words }
+    ensures told { Tells (data_of program.now.names (arrays_of program.now.decls) first_line bytes.now) result }
+    ensures sizes { IfOk result (λ words. words.sizes ≡ sizes_of (arrays_of program.now.decls)) }
+{
+    let decls = program.decls.as_slice();
+    let arrays = names_of(alloc, decls)?;
+    let lengths = lengths_of(alloc, decls)?;
+    let progress = Progress::open(alloc, lengths.as_slice())?;
+    progress.read_lines(
+        program.names.as_slice(),
+        arrays.as_slice(),
+        bytes,
+        first_line,
+    )
+}
+
+/// The same of a checked program.
+pub fn read_data(
+    alloc: Global,
+    bytes: &[u8],
+    first_line: u32,
+    checked: &Checked,
+) -> Result<Words, DataRefused>
+    requires small { length bytes.now ≤ 33554432 }
+    requires line { first_line ≤ 33554433 }
+    ensures told { Tells (data_of checked.now.names (arrays_of checked.now.decls) first_line bytes.now) result }
+    ensures sizes { IfOk result (λ words. words.sizes ≡ sizes_of (arrays_of checked.now.decls)) }
+{
+    read_program_data(alloc, bytes, first_line, checked.program())
+}
+
+/// Where no line is faulty, each array has the values of its line, and zeros where it has none.
+pub fn words_are_of_lines()
+    ensures { (names : List (List ℕ)) (arrays : List Array) (line : ℕ) (bytes : List ℕ) (memory : Memory)
+        → data_of names arrays line bytes ≡ Ok memory → AreOfLines names arrays (lines_of bytes) memory }
+{}
