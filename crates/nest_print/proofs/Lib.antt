@@ -8,3 +8,5 @@ pub mod Shown
 pub mod Signs
 pub mod Printable
 pub mod Values
+pub mod Statements
+pub mod Blocks

@@ -1,5 +1,5 @@
 -- The operators, each with its mark.
-use Rattle.std.proofs.Common.{◌≡◌, ℕ, ◌<◌, true, false, Some, List, [], ◌∷◌, ◌++◌, refl, arith}
+use Rattle.std.proofs.Common.{◌≡◌, ℕ, ◌<◌, Bool, true, false, Some, List, [], ◌∷◌, ◌++◌, refl, arith}
 use Rattle.nest_syntax.specs.declared.operators.Un.{Un}
 use Rattle.nest_syntax.specs.declared.operators.Un.TheVariants as un
 use Rattle.nest_syntax.specs.declared.operators.Bin.{Bin}
@@ -10,8 +10,8 @@ use Rattle.nest_lex.specs.Spelling.{mark_text}
 use Rattle.nest_lex.specs.declared.token.Mark.{Mark}
 use Rattle.nest_lex.specs.declared.token.Mark.TheVariants as mark
 use Rattle.nest_lex.specs.declared.token.Kind.TheVariants as kind
-use Rattle.nest_parse.specs.Grammar.{binary, unary, assignment}
-use Rattle.nest_print.specs.Canonical.{unary_text, binary_text, assignment_text, is_tight}
+use Rattle.nest_parse.specs.Grammar.{binary, unary, assignment, comparison}
+use Rattle.nest_print.specs.Canonical.{unary_text, binary_text, assignment_text, comparison_text, is_tight}
 use Rattle.nest_print.proofs.Takes.{opens}
 
 -- a binary operator has spaces round its mark, and its level
@@ -75,3 +75,14 @@ pub unary_of : (o : Un) → Unary o
 unary_of un.Neg = record { sign = mark.Minus; shown = refl; found = refl; plain = λ b rest. refl }
 unary_of un.Not = record { sign = mark.Not; shown = refl; found = refl; plain = λ b rest. refl }
 unary_of un.Flip = record { sign = mark.Flip; shown = refl; found = refl; plain = λ b rest. refl }
+
+-- the comparison of a loop too has spaces round its mark
+pub record Compared (through : Bool) : Type 0 where
+  pub sign : Mark
+  pub shown : comparison_text through ≡ 32 ∷ (mark_text sign ++ 32 ∷ [])
+  pub found : comparison (kind.Mark sign) ≡ Some through
+  pub plain : (rest : List ℕ) → opens (mark_text sign ++ 32 ∷ rest) ≡ false
+
+pub compared_of : (through : Bool) → Compared through
+compared_of true = record { sign = mark.LessEqual; shown = refl; found = refl; plain = λ rest. refl }
+compared_of false = record { sign = mark.Less; shown = refl; found = refl; plain = λ rest. refl }

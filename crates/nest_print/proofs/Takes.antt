@@ -59,11 +59,14 @@ digits_words (b ∷ bytes) all = by (is_digit b) refl (digits_words bytes)
     by true e rest = ap (λ c. c && list_all is_word_byte bytes) (word_from_digit b e) ∙ rest (sym (ap (λ c. c && list_all is_digit bytes) e) ∙ all)
     by false e rest = absurd (false≢true (sym (ap (λ c. c && list_all is_digit bytes) e) ∙ all))
 
--- a name is taken, whose number is a number of its bytes
+-- the number of a name
+abbrev pub place : List (List ℕ) → List ℕ → ℕ
+place names bytes = position_or_len (bytes_eq bytes) names
+
+-- a name is taken, whose number is that of its bytes
 pub record Took_name (text : List ℕ) (names : List (List ℕ)) (bytes : List ℕ) (tokens : List Token) (rest : List ℕ) : Type 0 where
-  pub number : ℕ
-  pub is : get_or names number [] ≡ bytes
-  pub took : Took text names (kind.Name number) tokens rest
+  pub is : get_or names (place names bytes) [] ≡ bytes
+  pub took : Took text names (kind.Name (place names bytes)) tokens rest
 
 module _ {text : List ℕ} {names : List (List ℕ)} where
   pub take_name : (bytes : List ℕ) {tokens : List Token} {rest : List ℕ} → IsName bytes → is_word_byte (get_or rest 0 0) ≡ false → Left text names tokens (bytes ++ rest) → Took_name text names bytes tokens rest
@@ -74,7 +77,7 @@ module _ {text : List ℕ} {names : List (List ℕ)} where
       let stands = name_stands text left.at (left.at + length bytes) end (first_word text left.at bytes rest left.here some name.goes_on) letter
       (λ k same. name.no_keyword k (same ∙ range text left.at bytes rest left.here)) in
       let t = taken piece.Name bytes left some stands in
-      record { number = position_or_len (bytes_eq bytes) names; is = place_is bytes names t.1; took = t.0 }
+      record { is = place_is bytes names t.1; took = t.0 }
 
   pub take_number : (n : ℕ) {tokens : List Token} {rest : List ℕ} → n ≤ 9223372036854775807 → is_word_byte (get_or rest 0 0) ≡ false → Left text names tokens (decimal n ++ rest) → Took text names (kind.Number n) tokens rest
   take_number n {tokens} {rest} small ends left =

@@ -23,7 +23,7 @@ use Rattle.nest_print.specs.Same.{IsSameExpr}
 use Rattle.nest_print.proofs.Digits.{is_number}
 use Rattle.nest_print.proofs.Joined.{joins}
 use Rattle.nest_print.proofs.Left.{Left, Took, moved, past}
-use Rattle.nest_print.proofs.Takes.{Took_name, take_name, take_number, take_mark, take_lone}
+use Rattle.nest_print.proofs.Takes.{Took_name, place, take_name, take_number, take_mark, take_lone}
 use Rattle.nest_print.proofs.Shown.{number_text, scalar_text, read_text, signed_text, joined_text, choice_text}
 use Rattle.nest_print.proofs.Signs.{Binary, binary_of, Unary, unary_of}
 use Rattle.nest_print.proofs.Printable.{Printable, number, scalar, word, unary, binary, chosen}
@@ -56,7 +56,7 @@ first_of : (shown : List ℕ) → 1 ≤ length shown → joins (get_or shown 0 0
 first_of [] some apart = absurd (omega (arith, some))
 first_of (b ∷ more) some apart = record { byte = b; more = more; is = refl; plain = apart }
 
-first_of_number : (n : ℕ) → n ≤ greatest → First (decimal n)
+pub first_of_number : (n : ℕ) → n ≤ greatest → First (decimal n)
 first_of_number n small = let is = is_number n small in first_of (decimal n) is.some (digit_plain (get_or (decimal n) 0 0) (all_at is_digit (decimal n) 0 (omega (arith, is.some)) is.digits))
 
 first_of_name : (bytes : List ℕ) → IsName bytes → First bytes
@@ -132,7 +132,7 @@ module _ (old : List (List ℕ)) (text : List ℕ) (names : List (List ℕ)) whe
   read_scalar : (n : ℕ) → IsName (name_text old n) → Reader IsFactor (expr.Scalar n) (name_text old n)
   read_scalar n name rest ends tokens left =
       let t = take_name (name_text old n) name ends left in
-      record { back = expr.Scalar t.number; more = t.took.more; is = subst (λ ts. IsFactor ts (expr.Scalar t.number) t.took.more) (sym t.took.are) a_name; same = same.scalar (sym t.is); left = t.took.left }
+      record { back = expr.Scalar (place names (name_text old n)); more = t.took.more; is = subst (λ ts. IsFactor ts (expr.Scalar (place names (name_text old n))) t.took.more) (sym t.took.are) a_name; same = same.scalar (sym t.is); left = t.took.left }
 
   word_split : (name place rest : List ℕ) → word_text name place ++ rest ≡ name ++ 91 ∷ (place ++ 93 ∷ rest)
   word_split name place rest = simp append_assoc
@@ -144,11 +144,11 @@ module _ (old : List (List ℕ)) (text : List ℕ) (names : List (List ℕ)) whe
       let b = comes.alone (93 ∷ rest) refl opened.more opened.left in
       let close = take_lone mark.CloseSquare refl b.left in
       let inside : IsExpr opened.more b.back _ = subst (λ ts. IsExpr opened.more b.back ts) close.are b.is in
-      let front = t.took.are ∙ ap (λ ts. grammar.named t.number t.took.spot ∷ ts) opened.are in
+      let front = t.took.are ∙ ap (λ ts. grammar.named (place names (name_text old n)) t.took.spot ∷ ts) opened.are in
       record {
-        back = expr.Word t.number b.back;
+        back = expr.Word (place names (name_text old n)) b.back;
         more = close.more;
-        is = subst (λ ts. IsFactor ts (expr.Word t.number b.back) close.more) (sym front) (a_word inside);
+        is = subst (λ ts. IsFactor ts (expr.Word (place names (name_text old n)) b.back) close.more) (sym front) (a_word inside);
         same = same.word (sym t.is) b.same;
         left = close.left;
       }
