@@ -10,3 +10,4 @@ pub mod Printable
 pub mod Values
 pub mod Statements
 pub mod Blocks
+pub mod Programs
