@@ -1,6 +1,5 @@
 -- The text of arms, loops and lists of statements is read back as the same.
-use Rattle.std.proofs.Common.{◌≡◌, ℕ, suc, ◌≤◌, pos, Bool, true, false, if◌then◌else◌, ◌==◌, Some, List, [], ◌∷◌, ◌++◌, map, refl, sym, ap, subst, ◌∙◌, arith, append_assoc, codes}
-use Rattle.std.specs.List.{flat_map}
+use Rattle.std.proofs.Common.{◌≡◌, ℕ, ◌≤◌, Bool, true, false, if◌then◌else◌, ◌==◌, List, [], ◌∷◌, ◌++◌, map, refl, sym, ap, subst, ◌∙◌, arith, append_assoc, codes}
 use Rattle.std.specs.Fmt.{decimal}
 use Rattle.std.proofs.lemmas.Bool.Decides.{nat_tests}
 use Rattle.nest_syntax.specs.declared.tree.Expr.{Expr}
@@ -14,18 +13,18 @@ use Rattle.nest_lex.specs.declared.token.Keyword.TheVariants as word
 use Rattle.nest_lex.specs.declared.token.Mark.TheVariants as mark
 use Rattle.nest_lex.specs.declared.token.Spot.{Spot}
 use Rattle.nest_lex.specs.declared.token.Token.{Token}
-use Rattle.nest_parse.specs.Grammar.{greatest, shift, line, sign, keyword, IsExpr, IsLevel, IsStep, behind, before, by, IsStatement, declares, assigns, writes, chooses, turns, IsArm, an_arm, IsElses, no_else, else_if, last_else, IsLoop, a_loop, IsStatements, no_statement, statement}
+use Rattle.nest_parse.specs.Grammar.{greatest, shift, line, IsExpr, IsLevel, IsStep, behind, by, IsStatement, declares, assigns, writes, chooses, turns, IsArm, an_arm, IsElses, no_else, else_if, last_else, IsLoop, a_loop, IsStatements, no_statement, statement}
 use Rattle.nest_print.specs.declared.print.Standing.TheVariants.{Alone, Bound}
-use Rattle.nest_print.specs.Canonical.{expr_text, name_text, statement_text, one_arm_text, region_text, all_shown, block_text, arms_text, further_text, other_text, bounds_text, comparison_text, step_text}
+use Rattle.nest_print.specs.Canonical.{expr_text, name_text, statement_text, one_arm_text, region_text, all_shown, block_text, further_text, other_text, step_text}
 use Rattle.nest_print.specs.Same as same
 use Rattle.nest_print.specs.Same.{IsSameStmt, AreSameStmts, IsSameArm, AreSameArms, IsSameLoop}
-use Rattle.nest_print.proofs.Left.{Left, Took, moved, past}
-use Rattle.nest_print.proofs.Takes.{place, Took_name, take_name, take_number, take_keyword, take_mark, take_lone}
+use Rattle.nest_print.proofs.Left.{Left, moved, past}
+use Rattle.nest_print.proofs.Takes.{place, take_name, take_number, take_keyword, take_mark, take_lone}
 use Rattle.nest_print.proofs.Shown.{if_text, inner_text, turns_text}
-use Rattle.nest_print.proofs.Signs.{Compared, compared_of}
+use Rattle.nest_print.proofs.Signs.{compared_of}
 use Rattle.nest_print.proofs.Printable.{AllNames, value_printable, level_printable}
-use Rattle.nest_print.proofs.Values.{Back, Comes, comes}
-use Rattle.nest_print.proofs.Statements.{Blanks, after, step_good, If_arm, Block, past_all, Returned, Returns, Elses_returned, Elses_return, read_declare, read_assign, read_write, read_block, read_arm}
+use Rattle.nest_print.proofs.Values.{Comes, comes}
+use Rattle.nest_print.proofs.Statements.{after, step_good, If_arm, past_all, Returns, Elses_return, read_declare, read_assign, read_write, read_block, read_arm}
 
 -- a step is read, and what is left behind it
 pub record Stepped (text : List ℕ) (names : List (List ℕ)) (n step : ℕ) (tokens : List Token) (rest : List ℕ) : Type 0 where

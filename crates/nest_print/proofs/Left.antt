@@ -1,33 +1,22 @@
 -- What is left of a text, and the tokens that are left with it.
-use Rattle.std.proofs.Common.{◌≡◌, ℕ, zero, suc, ◌+◌, ◌-◌, ◌<◌, ◌≤◌, Bool, true, false, not, ◌&&◌, ◌||◌, ◌==◌, List, [], ◌∷◌, ◌++◌, length, get_or, take, drop, map, slice_range, slice_index, refl, sym, ap, subst, ◌∙◌, inl, inr, arith}
-use Rattle.std.specs.List.{list_all, list_any, position_or_len}
-use Rattle.std.specs.Str.{bytes_eq}
+use Rattle.std.proofs.Common.{◌≡◌, ℕ, ◌+◌, ◌-◌, ◌<◌, ◌≤◌, true, false, List, [], ◌∷◌, ◌++◌, length, get_or, take, drop, map, slice_range, refl, sym, ap, subst, ◌∙◌, arith}
+use Rattle.std.specs.List.{list_all}
 use Rattle.std.proofs.Math.Seq.{drop-append_seam, take-append_seam}
 use Rattle.std.proofs.lemmas.List.{get_or-drop, length-drop, drop-drop, length-append}
-use Rattle.std.proofs.lemmas.Bool.{false≢true}
-use Rattle.nest_lex.specs.Bytes.{is_letter, is_blank, is_digit, is_word_byte}
-use Rattle.nest_lex.specs.Load.{load_after, IsAllowed}
-use Rattle.nest_lex.specs.Pieces.{Stands, OpensLine, OpensBlock}
+use Rattle.nest_lex.specs.Bytes.{is_blank, is_word_byte}
+use Rattle.nest_lex.specs.Load.{load_after}
+use Rattle.nest_lex.specs.Pieces.{Stands}
 use Rattle.nest_lex.specs.Places.{spot_of}
 use Rattle.nest_lex.specs.Reader.{AllKnown, IsKnown}
-use Rattle.nest_lex.specs.Scans.{IsWordEnd, IsLongestMark}
-use Rattle.nest_lex.specs.Spelling.{keyword_text, mark_text, Spells, IsName, IsNumber}
-use Rattle.nest_lex.specs.Text.{Lexeme, Whole, Reads, kind_of, token_of, bytes_of}
+use Rattle.nest_lex.specs.Scans.{IsWordEnd}
+use Rattle.nest_lex.specs.Text.{Lexeme, Whole, Reads, kind_of, token_of}
 use Rattle.nest_lex.specs.declared.load.Load.{Load}
 use Rattle.nest_lex.specs.declared.piece.Piece.{Piece}
-use Rattle.nest_lex.specs.declared.piece.Piece.TheVariants as piece
-use Rattle.nest_lex.specs.declared.token.Keyword.{Keyword}
-use Rattle.nest_lex.specs.declared.token.Mark.{Mark}
 use Rattle.nest_lex.specs.declared.token.Kind.{Kind}
-use Rattle.nest_lex.specs.declared.token.Kind.TheVariants as kind
 use Rattle.nest_lex.specs.declared.token.Spot.{Spot}
 use Rattle.nest_lex.specs.declared.token.Token.{Token}
-use Rattle.nest_lex.proofs.Ranges.{first_byte, all_at_place, all_at, length-range, word_from_digit, word_from_letter}
-use Rattle.nest_lex.proofs.Tables.{keyword_words, keyword_some, mark_some}
-use Rattle.nest_lex.proofs.Words.{name_stands, number_stands, keyword_stands}
-use Rattle.nest_lex.proofs.Marks.{longest_here, mark_stands}
-use Rattle.nest_print.proofs.Spelled.{Piece_read, piece_read, reads_on, none_read}
-use Rattle.nest_print.proofs.Joined.{joins, lone, no_longer_mark, no_lone}
+use Rattle.nest_lex.proofs.Ranges.{first_byte, all_at_place}
+use Rattle.nest_print.proofs.Spelled.{piece_read, reads_on, none_read}
 
 -- where `rest` is left of the text, these tokens are left
 pub record Left (text : List ℕ) (names : List (List ℕ)) (tokens : List Token) (rest : List ℕ) : Type 0 where
@@ -111,19 +100,21 @@ module _ {text : List ℕ} {names : List (List ℕ)} where
   taken p bytes {tokens} {rest} left some stands =
       let read = piece_read text left.at p (left.at + length bytes) left.load left.lexemes stands left.reads in
       let known : AllKnown text names (record { is = p; start = left.at; next = left.at + length bytes } ∷ read.more) = subst (AllKnown text names) read.are left.known in
-      let is : slice_range text left.at (left.at + length bytes) ≡ bytes = range text left.at bytes rest left.here in
-      (record {
-        spot = spot_of text left.at;
-        more = map (token_of text names) read.more;
-        are = left.are ∙ ap (map (token_of text names)) read.are ∙ ap (λ (bs : List ℕ). record { kind = kind_of names bs p; spot = spot_of text left.at } ∷ map (token_of text names) read.more) is;
-        left = record {
-          at = left.at + length bytes;
-          load = load_after left.load p;
-          lexemes = read.more;
-          reads = read.reads;
-          known = known.1;
-          are = refl;
-          within = omega (arith, (inside text left.at bytes rest left.here some).1);
-          here = behind text left.at bytes rest left.here;
-        };
-      }, subst (λ bs. IsKnown names bs p) is known.0)
+      let is : slice_range text left.at (left.at + length bytes) ≡ bytes = range text left.at bytes rest left.here in (
+        record {
+          spot = spot_of text left.at;
+          more = map (token_of text names) read.more;
+          are = left.are ∙ ap (map (token_of text names)) read.are ∙ ap (λ (bs : List ℕ). record { kind = kind_of names bs p; spot = spot_of text left.at } ∷ map (token_of text names) read.more) is;
+          left = record {
+            at = left.at + length bytes;
+            load = load_after left.load p;
+            lexemes = read.more;
+            reads = read.reads;
+            known = known.1;
+            are = refl;
+            within = omega (arith, (inside text left.at bytes rest left.here some).1);
+            here = behind text left.at bytes rest left.here;
+          };
+        },
+        subst (λ bs. IsKnown names bs p) is known.0,
+      )

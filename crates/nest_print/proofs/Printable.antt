@@ -1,5 +1,5 @@
 -- Expressions of a grammar's program: their names are names, their numbers are in range.
-use Rattle.std.proofs.Common.{◌≡◌, ℕ, ◌≤◌, pos, List, [], ◌∷◌}
+use Rattle.std.proofs.Common.{ℕ, ◌≤◌, pos, List}
 use Rattle.std.specs.List.{AllByRecursion}
 use Rattle.nest_syntax.specs.declared.operators.Un.{Un}
 use Rattle.nest_syntax.specs.declared.operators.Bin.{Bin}

@@ -1,5 +1,5 @@
 -- The canonical text of a program is read back as the same program.
-use Rattle.std.proofs.Common.{◌≡◌, ℕ, zero, suc, ◌≤◌, ℤ, pos, negsuc, neg_ℤ, Bool, true, false, List, [], ◌∷◌, ◌++◌, get_or, map, refl, sym, ap, subst, ◌∙◌, arith, append_assoc, codes}
+use Rattle.std.proofs.Common.{◌≡◌, ℕ, zero, suc, ◌≤◌, ℤ, pos, neg_ℤ, true, false, List, [], ◌∷◌, ◌++◌, get_or, map, refl, sym, ap, subst, arith, append_assoc, codes}
 use Rattle.std.specs.List.{flat_map, fold}
 use Rattle.std.specs.Fmt.{decimal, signed_decimal}
 use Rattle.std.proofs.lemmas.List.{append-nil}
@@ -12,7 +12,7 @@ use Rattle.nest_lex.specs.Bytes.{is_word_byte}
 use Rattle.nest_lex.specs.Load.{no_load, load_after}
 use Rattle.nest_lex.specs.Reader.{AllKnown, IsKnown}
 use Rattle.nest_lex.specs.Spelling.{Spells, IsName}
-use Rattle.nest_lex.specs.Text.{Lexeme, Whole, Reads, AreTokens, bytes_of, names_of, names_with, kind_of, token_of, tokens_of}
+use Rattle.nest_lex.specs.Text.{Lexeme, Whole, Reads, AreTokens, bytes_of, names_of, names_with, kind_of, token_of}
 use Rattle.nest_lex.specs.declared.load.Load.{Load}
 use Rattle.nest_lex.specs.declared.piece.Piece.{Piece}
 use Rattle.nest_lex.specs.declared.piece.Piece.TheVariants as piece
@@ -21,15 +21,15 @@ use Rattle.nest_lex.specs.declared.token.Mark.TheVariants as mark
 use Rattle.nest_lex.specs.declared.token.Token.{Token}
 use Rattle.nest_lex.specs.declared.token.Tokens.{Tokens}
 use Rattle.nest_lex.proofs.Numbering.{names_grow, known_more, piece_known}
-use Rattle.nest_parse.specs.Grammar.{greatest, line, IsSigned, positive, negative, IsDecl, an_array, a_fixed_array, a_scalar, AreDecls, no_decl, declaration, IsLoop, AreLoops, no_loop, a_region, AreProgram, Derives}
+use Rattle.nest_parse.specs.Grammar.{greatest, line, IsSigned, positive, negative, IsDecl, an_array, a_fixed_array, a_scalar, AreDecls, no_decl, declaration, AreLoops, no_loop, a_region}
 use Rattle.nest_print.specs.Canonical.{name_text, region_text, decl_text, all_shown, canonical_text}
 use Rattle.nest_print.specs.Same as same
 use Rattle.nest_print.specs.Same.{IsSameDecl, AreSameDecls, IsSameLoop, AreSameLoops, IsSame, IsSpelled, ComesBack}
 use Rattle.nest_print.proofs.Left.{Left, moved, past, at_end}
 use Rattle.nest_print.proofs.Takes.{place, place_is, take_name, take_number, take_keyword, take_mark, take_lone}
 use Rattle.nest_print.proofs.Printable.{IsNamed, AllNames}
-use Rattle.nest_print.proofs.Values.{First, first_of_number}
-use Rattle.nest_print.proofs.Statements.{outer, after, Returned, Returns}
+use Rattle.nest_print.proofs.Values.{first_of_number}
+use Rattle.nest_print.proofs.Statements.{outer, after, Returned}
 use Rattle.nest_print.proofs.Blocks.{loop_back}
 
 -- the names of a text are known, and are names
@@ -162,23 +162,25 @@ module _ (old : List (List ℕ)) (text : List ℕ) (names : List (List ℕ)) whe
   decls_back no_decl h = (λ rest tokens left. record { back = []; more = tokens; is = no_decl; same = same.no_decl; left = left }, h)
   decls_back (declaration {x = x} {xs = xs} y ys) h =
       let v = decl_back y h in
-      let w = decls_back ys v.1 in
-      (λ rest tokens left.
-      let a = v.0 _ tokens (moved (append_assoc (decl_text old x) (flat_map (decl_text old) xs) rest) left) in
-      let b = w.0 rest a.more a.left in
-      record { back = a.back ∷ b.back; more = b.more; is = declaration a.is b.is; same = same.one_decl a.same b.same; left = b.left },
-      w.1)
+      let w = decls_back ys v.1 in (
+        λ rest tokens left.
+            let a = v.0 _ tokens (moved (append_assoc (decl_text old x) (flat_map (decl_text old) xs) rest) left) in
+            let b = w.0 rest a.more a.left in
+            record { back = a.back ∷ b.back; more = b.more; is = declaration a.is b.is; same = same.one_decl a.same b.same; left = b.left },
+        w.1,
+      )
 
   loops_back : {ts r : List Token} {xs : List Loop} → AreLoops ts xs r → AllNames old ts → Read_back AreLoops (AreSameLoops old names) xs (all_shown [] (map (region_text old) xs)) × AllNames old r
   loops_back no_loop h = (λ rest tokens left. record { back = []; more = tokens; is = no_loop; same = same.no_loop; left = left }, h)
   loops_back (a_region {x = x} {xs = xs} y ys) h =
       let v = loop_back old text names y h in
-      let w = loops_back ys v.1 in
-      (λ rest tokens left.
-      let a = v.0 [] outer _ tokens (moved (append_assoc (region_text old x []) (all_shown [] (map (region_text old) xs)) rest) left) in
-      let b = w.0 rest a.more a.left in
-      record { back = a.back ∷ b.back; more = b.more; is = a_region a.is b.is; same = same.one_loop a.same b.same; left = b.left },
-      w.1)
+      let w = loops_back ys v.1 in (
+        λ rest tokens left.
+            let a = v.0 [] outer _ tokens (moved (append_assoc (region_text old x []) (all_shown [] (map (region_text old) xs)) rest) left) in
+            let b = w.0 rest a.more a.left in
+            record { back = a.back ∷ b.back; more = b.more; is = a_region a.is b.is; same = same.one_loop a.same b.same; left = b.left },
+        w.1,
+      )
 
 -- the tokens of the whole text
 whole_left : (text : List ℕ) (lexemes : List Lexeme) → Reads text 0 no_load lexemes Whole → Left text (names_of text lexemes) (map (token_of text (names_of text lexemes)) lexemes) text
@@ -200,3 +202,7 @@ comes_back program again spelled are =
       derives = record { names = refl; spelled = record { middle = a.more; declared = a.is; looped = subst (λ ts. AreLoops a.more b.back ts) (at_end b.left) b.is } };
       same = record { decls = a.same; regions = b.same };
     })
+
+-- the same of bytes that are this text
+pub printed_comes_back : {program : Program} {out : List ℕ} {again : Tokens} → out ≡ canonical_text program → IsSpelled program → AreTokens out again → ComesBack program again
+printed_comes_back {program} {out} {again} same spelled are = comes_back program again spelled (subst (λ text. AreTokens text again) same are)

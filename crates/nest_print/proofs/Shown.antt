@@ -1,5 +1,5 @@
 -- The texts of the tree, as equations at each kind of node.
-use Rattle.std.proofs.Common.{◌≡◌, ℕ, ℤ, Bool, List, [], ◌∷◌, ◌++◌, map, codes, rules}
+use Rattle.std.proofs.Common.{◌≡◌, ℕ, ℤ, Bool, List, ◌++◌, map, codes, rules}
 use Rattle.std.specs.Fmt.{signed_decimal}
 use Rattle.nest_syntax.specs.declared.names.Line.{Line}
 use Rattle.nest_syntax.specs.declared.operators.Un.{Un}
@@ -14,7 +14,7 @@ use Rattle.nest_syntax.specs.declared.tree.Stmt.TheVariants as stmt
 use Rattle.nest_syntax.specs.declared.tree.Stmt.TheFolds.{the_lemmas as the_stmt_lemmas}
 use Rattle.nest_syntax.specs.declared.tree.Loop.{Loop}
 use Rattle.nest_print.specs.declared.print.Standing.{Standing}
-use Rattle.nest_print.specs.declared.print.Standing.TheVariants.{Alone, Bound, Operand}
+use Rattle.nest_print.specs.declared.print.Standing.TheVariants.{Alone, Operand}
 use Rattle.nest_print.specs.Canonical.{expr_text, name_text, word_text, enclosed, is_unary_enclosed, is_binary_enclosed, is_choice_enclosed, unary_text, binary_text, assignment_text, statement_text, one_arm_text, region_text, arms_text, other_text, block_text, bounds_text, step_text}
 
 module _ (names : List (List ℕ)) where

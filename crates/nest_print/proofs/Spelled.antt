@@ -1,9 +1,9 @@
 -- What a text has in front tells which piece stands there.
-use Rattle.std.proofs.Common.{◌≡◌, ℕ, ◌+◌, ◌-◌, ◌<◌, ◌≤◌, Bool, true, false, List, [], ◌∷◌, length, get_or, slice_range, slice_index, refl, sym, ap, subst, ◌∙◌, inl, inr, arith}
+use Rattle.std.proofs.Common.{◌≡◌, ℕ, ◌+◌, ◌<◌, Bool, true, false, List, [], ◌∷◌, length, get_or, slice_range, slice_index, refl, sym, ap, subst, ◌∙◌, inl, inr, arith}
 use Rattle.std.proofs.lemmas.Bool.{false≢true, cases_lt}
 use Rattle.std.proofs.lemmas.List.{get_or_past}
 use Rattle.nest_lex.specs.Bytes.{is_blank, is_digit, is_word_byte}
-use Rattle.nest_lex.specs.Load.{load_after, IsAllowed}
+use Rattle.nest_lex.specs.Load.{load_after}
 use Rattle.nest_lex.specs.Pieces.{IsGap, Gaps, Stands}
 use Rattle.nest_lex.specs.Spelling.{keyword_text, mark_text, Spells, IsNumber}
 use Rattle.nest_lex.specs.Text.{Lexeme, Whole, Reads}

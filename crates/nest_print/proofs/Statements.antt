@@ -1,31 +1,25 @@
 -- The text of a statement is read back as the same statement.
-use Rattle.std.proofs.Common.{◌≡◌, ℕ, suc, ◌≤◌, pos, Bool, true, false, if◌then◌else◌, ◌==◌, Some, List, [], ◌∷◌, ◌++◌, map, refl, sym, ap, subst, ◌∙◌, arith, append_assoc, codes}
-use Rattle.std.specs.List.{flat_map}
-use Rattle.std.specs.Fmt.{decimal}
-use Rattle.std.proofs.lemmas.Bool.Decides.{nat_tests}
+use Rattle.std.proofs.Common.{◌≡◌, ℕ, ◌≤◌, List, [], ◌∷◌, ◌++◌, map, refl, sym, ap, subst, ◌∙◌, arith, append_assoc, codes}
 use Rattle.nest_syntax.specs.declared.tree.Expr.{Expr}
 use Rattle.nest_syntax.specs.declared.tree.Arm.{Arm}
 use Rattle.nest_syntax.specs.declared.tree.Stmt.{Stmt}
 use Rattle.nest_syntax.specs.declared.tree.Stmt.TheVariants as stmt
-use Rattle.nest_syntax.specs.declared.tree.Loop.{Loop}
-use Rattle.nest_lex.specs.Bytes.{is_word_byte}
 use Rattle.nest_lex.specs.Spelling.{mark_text, IsName}
 use Rattle.nest_lex.specs.declared.token.Keyword.TheVariants as word
 use Rattle.nest_lex.specs.declared.token.Mark.TheVariants as mark
-use Rattle.nest_lex.specs.declared.token.Kind.TheVariants as kind
 use Rattle.nest_lex.specs.declared.token.Spot.{Spot}
 use Rattle.nest_lex.specs.declared.token.Token.{Token}
-use Rattle.nest_parse.specs.Grammar.{greatest, shift, line, sign, keyword, IsExpr, IsLevel, IsStep, behind, before, by, IsStatement, declares, assigns, writes, chooses, turns, IsArm, an_arm, IsElses, no_else, else_if, last_else, IsLoop, a_loop, IsStatements, no_statement, statement}
-use Rattle.nest_print.specs.declared.print.Standing.TheVariants.{Alone, Bound}
-use Rattle.nest_print.specs.Canonical.{expr_text, name_text, statement_text, one_arm_text, region_text, all_shown, block_text, further_text, other_text, deeper, step_text}
+use Rattle.nest_parse.specs.Grammar.{greatest, line, sign, keyword, IsExpr, IsStep, behind, before, by, IsStatement, declares, assigns, writes, IsArm, an_arm, IsElses, IsStatements}
+use Rattle.nest_print.specs.declared.print.Standing.TheVariants.{Alone}
+use Rattle.nest_print.specs.Canonical.{expr_text, name_text, statement_text, one_arm_text, all_shown, block_text, further_text, other_text, deeper}
 use Rattle.nest_print.specs.Same as same
 use Rattle.nest_print.specs.Same.{IsSameStmt, AreSameStmts, IsSameArm, AreSameArms, IsSameLoop}
-use Rattle.nest_print.proofs.Left.{Left, Took, moved, past}
-use Rattle.nest_print.proofs.Takes.{place, Took_name, take_name, take_number, take_keyword, take_mark, take_lone}
-use Rattle.nest_print.proofs.Shown.{declare_text, assign_text, write_text, if_text, inner_text, tested_text, turns_text}
-use Rattle.nest_print.proofs.Signs.{Assignment, assignment_of, Compared, compared_of}
-use Rattle.nest_print.proofs.Printable.{AllNames, value_printable, level_printable}
-use Rattle.nest_print.proofs.Values.{Back, Comes, comes}
+use Rattle.nest_print.proofs.Left.{Left, moved, past}
+use Rattle.nest_print.proofs.Takes.{place, take_name, take_keyword, take_mark, take_lone}
+use Rattle.nest_print.proofs.Shown.{declare_text, assign_text, write_text, tested_text}
+use Rattle.nest_print.proofs.Signs.{assignment_of}
+use Rattle.nest_print.proofs.Printable.{AllNames}
+use Rattle.nest_print.proofs.Values.{Comes}
 
 -- the spaces of a depth of blocks
 pub data Blanks : List ℕ → Type 0 where

@@ -1,12 +1,11 @@
 -- A token of each sort, taken from the front of what is left of a text.
-use Rattle.std.proofs.Common.{◌≡◌, ℕ, suc, ◌+◌, ◌-◌, ◌<◌, ◌≤◌, ◌⊎◌, Bool, true, false, not, cond, ◌&&◌, ◌||◌, ◌==◌, List, [], ◌∷◌, ◌++◌, length, get_or, slice_range, refl, sym, ap, subst, ◌∙◌, inl, inr, arith}
+use Rattle.std.proofs.Common.{◌≡◌, ℕ, suc, ◌+◌, ◌≤◌, ◌⊎◌, Bool, true, false, not, cond, ◌&&◌, ◌||◌, ◌==◌, List, [], ◌∷◌, ◌++◌, length, get_or, refl, sym, ap, subst, ◌∙◌, inl, inr, arith}
 use Rattle.std.specs.List.{list_all, list_any, position_or_len}
 use Rattle.std.specs.Fmt.{decimal}
 use Rattle.std.specs.Str.{bytes_eq}
 use Rattle.std.proofs.lemmas.Bool.{false≢true}
 use Rattle.std.proofs.lemmas.Slice.Eq.{bytes_eq-Decides}
-use Rattle.nest_lex.specs.Bytes.{is_letter, is_digit, is_word_byte}
-use Rattle.nest_lex.specs.Pieces.{OpensLine, OpensBlock}
+use Rattle.nest_lex.specs.Bytes.{is_digit, is_word_byte}
 use Rattle.nest_lex.specs.Scans.{IsLongestMark}
 use Rattle.nest_lex.specs.Spelling.{keyword_text, mark_text, IsName, IsNumber}
 use Rattle.nest_lex.specs.declared.piece.Piece.TheVariants as piece

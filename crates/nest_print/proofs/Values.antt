@@ -1,5 +1,5 @@
 -- The text of an expression is read back as the same expression.
-use Rattle.std.proofs.Common.{◌≡◌, ℕ, zero, suc, ◌+◌, ◌-◌, ◌<◌, ◌≤◌, pos, Bool, true, false, if◌then◌else◌, Some, List, [], ◌∷◌, ◌++◌, length, get_or, refl, sym, ap, subst, ◌∙◌, arith, append_assoc}
+use Rattle.std.proofs.Common.{◌≡◌, ℕ, zero, suc, ◌+◌, ◌-◌, ◌≤◌, pos, Bool, true, false, if◌then◌else◌, List, [], ◌∷◌, ◌++◌, length, get_or, refl, sym, ap, subst, ◌∙◌, arith, append_assoc}
 use Rattle.std.specs.Fmt.{decimal}
 use Rattle.std.proofs.lemmas.Bool.Decides.{nat_tests}
 use Rattle.nest_syntax.specs.declared.operators.Un.{Un}
@@ -9,23 +9,21 @@ use Rattle.nest_syntax.specs.declared.tree.Expr.TheVariants as expr
 use Rattle.nest_lex.specs.Bytes.{is_letter, is_digit, is_word_byte}
 use Rattle.nest_lex.specs.Spelling.{mark_text, IsName}
 use Rattle.nest_lex.specs.declared.token.Mark.TheVariants as mark
-use Rattle.nest_lex.specs.declared.token.Kind.{Kind}
-use Rattle.nest_lex.specs.declared.token.Kind.TheVariants as kind
 use Rattle.nest_lex.specs.declared.token.Token.{Token}
 use Rattle.nest_lex.proofs.Ranges.{all_at}
 use Rattle.nest_parse.specs.Grammar as grammar
 use Rattle.nest_parse.specs.Grammar.{greatest, shift, loosest, IsFactor, a_number, a_name, a_word, in_parentheses, signed, IsLevel, tightest, level, IsTail, ended, goes_on, IsExpr, plain, choice}
 use Rattle.nest_print.specs.declared.print.Standing.{Standing}
 use Rattle.nest_print.specs.declared.print.Standing.TheVariants.{Alone, Bound, Operand}
-use Rattle.nest_print.specs.Canonical.{expr_text, name_text, word_text, enclosed, is_tight, is_binary_enclosed, unary_text, binary_text}
+use Rattle.nest_print.specs.Canonical.{expr_text, name_text, word_text, enclosed, is_tight, unary_text, binary_text}
 use Rattle.nest_print.specs.Same as same
 use Rattle.nest_print.specs.Same.{IsSameExpr}
 use Rattle.nest_print.proofs.Digits.{is_number}
 use Rattle.nest_print.proofs.Joined.{joins}
-use Rattle.nest_print.proofs.Left.{Left, Took, moved, past}
-use Rattle.nest_print.proofs.Takes.{Took_name, place, take_name, take_number, take_mark, take_lone}
+use Rattle.nest_print.proofs.Left.{Left, moved, past}
+use Rattle.nest_print.proofs.Takes.{place, take_name, take_number, take_mark, take_lone}
 use Rattle.nest_print.proofs.Shown.{number_text, scalar_text, read_text, signed_text, joined_text, choice_text}
-use Rattle.nest_print.proofs.Signs.{Binary, binary_of, Unary, unary_of}
+use Rattle.nest_print.proofs.Signs.{Binary, binary_of, unary_of}
 use Rattle.nest_print.proofs.Printable.{Printable, number, scalar, word, unary, binary, chosen}
 
 -- a level holds what the tighter ones hold
