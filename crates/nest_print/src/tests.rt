@@ -36,7 +36,7 @@ fn prints_canonical_text(rt: HostRuntime) -> Result<(), Fail> {
         ),
         (
             "long s = -0; for (long i = 0; i < (-s ? 1 : 2); i += 0) { s = ! (s) / (- 9223372036854775807); }",
-            "long s = 0;\nfor (long i = 0; i < (-s ? 1 : 2); i += 0) {\n  s = (!s) / (-9223372036854775807);\n}\n",
+            "long s = 0;\nfor (long i = 0; i < ((-s) ? 1 : 2); i += 0) {\n  s = (!s) / (-9223372036854775807);\n}\n",
         ),
     ] {
         assert_eq!(rt;
