@@ -1,1 +1,13 @@
 pub mod Printing
+pub mod Spelled
+pub mod Joined
+pub mod Left
+pub mod Digits
+pub mod Takes
+pub mod Shown
+pub mod Signs
+pub mod Printable
+pub mod Values
+pub mod Statements
+pub mod Blocks
+pub mod Programs

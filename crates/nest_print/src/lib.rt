@@ -1,6 +1,12 @@
 //! The canonical text of a program: a tree comes in, the one text goes out in which it is printed.
+//!
+//! The text is that of `specs/Canonical`. It comes back (`specs/Same`): where it has tokens, these derive the same
+//! program, but for lines and the numbering of names.
 #![tactic(auto)]
 
 mod print;
 
 pub use print::{Standing, print_program};
+
+#[cfg(test)]
+mod tests;

@@ -1,7 +1,10 @@
 //! Canonical text: the one way in which a program is printed.
 ghost use Rattle.std.specs.Prelude.{◌≡◌, ◌++◌, [], map, if◌then◌else◌, IfOk, OnOk};
 ghost use Rattle.nest_print.specs.Canonical as text;
+ghost use Rattle.nest_print.specs.Same.{IsSpelled, ComesBack};
 ghost use Rattle.nest_syntax.specs.Named.{IsWellNamed};
+ghost use Rattle.nest_lex.specs.Text.{AreTokens};
+ghost use Rattle.nest_lex.specs.declared.token.Tokens.{Tokens};
 
 use itoa::Buffer;
 use nest_syntax::{Arm, Bin, Decl, Expr, Loop, Name, NoMemory, Op, Program, Stmt, Un};
@@ -429,9 +432,14 @@ fn add_decl(out: &mut Vec<u8>, names: &[Name], decl: &Decl) -> Result<(), NoMemo
 
 /// The canonical text of a program: declarations and statements on lines of their own, two spaces for each depth of
 /// blocks, parentheses round each operand that isn't a number, a name or a word, and no comment.
+///
+/// It comes back: where some text spells the program, and where the canonical text has tokens, these derive a program
+/// that is the same but for its lines and the numbering of its names. A text with long runs or many open brackets has
+/// no tokens.
 pub fn print_program(alloc: Global, program: &Program) -> Result<Vec<u8>, NoMemory>
     requires { IsWellNamed program.now }
-    ensures { IfOk result (λ out. out.items ≡ text.canonical_text program.now) }
+    ensures canonical { IfOk result (λ out. out.items ≡ text.canonical_text program.now) }
+    ensures comes_back { IsSpelled program.now → IfOk result (λ out. (again : Tokens) → AreTokens out.items again → ComesBack program.now again) }
 {
     let names = program.names.as_slice();
     let mut out = Vec::new(alloc);
