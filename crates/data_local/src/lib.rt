@@ -14,6 +14,3 @@ mod written;
 
 pub use bounds::{BoundBreaches, bound_breaches};
 pub use locals::{DataLocals, data_locals};
-
-#[cfg(test)]
-mod tests;

@@ -1,4 +1,4 @@
-use crate::{bound_breaches, data_locals};
+use data_local::{bound_breaches, data_locals};
 use nest_lex::lex;
 use nest_parse::parse;
 use nest_syntax::{Line, NoMemory, Program, Stmt};
