@@ -5,6 +5,7 @@
 //! runs, and the bounds of the loops inside a body depend on no written array.
 #![tactic(auto)]
 
+mod bodies;
 mod bounds;
 mod locals;
 mod loops;
@@ -12,5 +13,6 @@ mod names;
 mod rows;
 mod written;
 
+pub use bodies::data_locals_by_body;
 pub use bounds::{BoundBreaches, bound_breaches};
 pub use locals::{DataLocals, data_locals};
