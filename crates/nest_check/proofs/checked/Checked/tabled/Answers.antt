@@ -25,4 +25,5 @@ invariant_of-result c = record {
   lengths_are = c.in_ok-lengths.ensures ∙ ap (λ ds. sizes_of (arrays_of ds)) c.as_slice.ensures;
   arrays_are = λ name. c.in_ok-arrays.ensures name ∙ ap (λ ns. place_of_name ns name) (c.as_slice-3.ensures.value ∙ c.in_ok-array_names.ensures ∙ ap array_names c.as_slice-2.ensures) ∙ array_place c.args.program.decls name;
   scalars_are = λ name. c.in_ok-scalars.ensures name ∙ ap (λ ns. place_of_name ns name) (c.as_slice-4.ensures.value ∙ c.in_ok-scalar_names.ensures ∙ ap names_of c.requires.scalars);
+  locals_are = c.in_ok-locals.ensures;
 }
