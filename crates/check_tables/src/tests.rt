@@ -106,6 +106,20 @@ fn texts_keep_their_bounds(rt: HostRuntime) -> Result<(), Fail> {
             "long g = 1;\nfor (long t = 0; t < 1; t++) {\nfor (long i = 0; i < 1; i++) {\ng = 1;\n}\n}",
             "rule 9 line 4",
         ),
+        ("for (long t = 0;\nt < t; t++) {}", "rule 10 line 1"),
+        (
+            "long a[1];\nlong n = 1;\nfor (long t = n; t < n; t++) {\nif (1) {\nn = 2;\n}\n}",
+            "rule 10 line 3",
+        ),
+        (
+            "long a[1];\nfor (long t = 0; t < 1; t++) {\nfor (long i = 0; i < 1; i++) {\nlong n = a[0];\nfor (long j = n; j < 1; j++) {}\n}\n}",
+            "rule 11 line 5",
+        ),
+        (
+            "const long a[1];\nfor (long t = 0; t < 1; t++) {\nfor (long i = a[0]; i < 1; i++) {\nfor (long j = a[0]; j < a[0]; j++) {}\n}\n}",
+            "kept",
+        ),
+        ("for (long t = 0; t < 1; t++) {\nlong y = x;\nx = 1;\n}", "rule 3 line 2"),
     ] {
         assert_eq!(rt; verdict(&rt, alloc, text)?.as_str(), said, "{text}");
     }
@@ -188,5 +202,47 @@ fn texts_keep_their_counts(rt: HostRuntime) -> Result<(), Fail> {
             "{left} {times}"
         );
     }
+    Ok(())
+}
+
+/// What the checker tells of a program that it keeps: lengths, and numbers of arrays and scalars by name.
+fn numbers(rt: &impl Abort, alloc: Global, text: &str) -> Result<String, AllocError> {
+    let bytes = text.as_bytes();
+    assert!(rt; bytes.len() <= 33_554_432);
+    let Ok(tokens) = lex(alloc, bytes) else {
+        return format!(in alloc; "no tokens");
+    };
+    let Ok(program) = parse(alloc, &tokens) else {
+        return format!(in alloc; "no program");
+    };
+    let Ok(checked) = check(alloc, program) else {
+        return format!(in alloc; "refused");
+    };
+    let Ok(copied) = checked.copy(alloc) else {
+        return Err(AllocError);
+    };
+    let mut told = String::new(alloc);
+    for length in copied.lengths() {
+        let piece = format!(in alloc; "{length} ")?;
+        told.push_str(piece.as_str())?;
+    }
+    for name in 0u32..7 {
+        if let Some(array) = copied.array_of(name) {
+            let piece = format!(in alloc; "a{array} ")?;
+            told.push_str(piece.as_str())?;
+        }
+        if let Some(scalar) = copied.scalar_of(name) {
+            let piece = format!(in alloc; "s{scalar} ")?;
+            told.push_str(piece.as_str())?;
+        }
+    }
+    Ok(told)
+}
+
+#[test]
+fn arrays_and_scalars_have_their_numbers(rt: HostRuntime) -> Result<(), Fail> {
+    let alloc = rt.alloc();
+    let text = "const long w[3]; long g = 2; long a[5]; for (long t = 0; t < 1; t++) { long s = 0; for (long i = 0; i < 1; i++) { a[i] = w[s]; } }";
+    assert_eq!(rt; numbers(&rt, alloc, text)?.as_str(), "3 5 a0 s0 a1 s1 s2 ");
     Ok(())
 }
