@@ -55,7 +55,6 @@ impl Checked {
     ) -> Result<Checked, NoMemory>
         requires named { IsWellNamed program }
         requires keeps { KeepsRules program }
-        requires few { length program.decls < 2 ^ 32 }
         requires scalars { scalars.now ≡ first_of_each (scheduler_scalars program) }
         ensures { IfOk result (λ checked. checked ≡ program) }
     {
