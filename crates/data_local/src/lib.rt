@@ -1,8 +1,8 @@
 //! The data locals of a body, and the two rules on the bounds of loops.
 //!
-//! In come the declarations and a body, out goes the set of its data locals: the names whose values may depend on written
-//! arrays. In comes a program, out go the lowest lines that break the rules: a high bound stays as it is while its loop
-//! runs, and the bounds of the loops inside a body depend on no written array.
+//! In comes a program, out go the data locals of each body: the names whose values may depend on written arrays; and the
+//! lowest lines that break the rules: a high bound stays as it is while its loop runs, and the bounds of the loops inside
+//! a body depend on no written array.
 #![tactic(auto)]
 
 mod bodies;
