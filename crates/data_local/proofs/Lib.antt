@@ -4,3 +4,4 @@ pub mod Walks
 pub mod Graphs
 pub mod Gathers
 pub mod Lowests
+pub mod BodyNodes

@@ -6,3 +6,4 @@ pub mod Loops
 pub mod Bounds
 pub mod Rows
 pub mod Breaches
+pub mod Bodies

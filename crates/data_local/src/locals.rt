@@ -16,7 +16,7 @@ use std::alloc::Global;
 use std::marker::Model;
 
 /// The data locals of a body.
-#[derive(Drop)]
+#[derive(Debug, Drop)]
 pub struct DataLocals {
     nodes: Nodes,
 }

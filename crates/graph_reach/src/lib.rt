@@ -21,7 +21,7 @@ pub struct Edge {
 }
 
 /// A set of nodes.
-#[derive(Drop)]
+#[derive(Debug, Drop)]
 pub struct Nodes {
     nodes: IndexSet<u64>,
 }

@@ -7,3 +7,4 @@ pub mod Places
 pub mod Judged
 pub mod Bodies
 pub mod Few
+pub mod Distinct

@@ -4,6 +4,8 @@ use Rattle.nest_syntax.specs.declared.tree.Decl.{Decl}
 use Rattle.nest_syntax.specs.declared.tree.Program.{Program}
 use Rattle.nest_syntax.specs.Named.{IsWellNamed}
 use Rattle.nest_syntax.specs.Arrays.{Array, arrays_of, sizes_of, array_of}
+use Rattle.nest_syntax.specs.Course.{bodies_of}
+use Rattle.data_local.specs.Bodies.{AreLocalsByBody}
 use Rattle.nest_check.specs.Declarations.{first_of_each, names_of, place_of_name}
 use Rattle.nest_check.specs.Entries.{scheduler_scalars}
 use Rattle.nest_check.specs.Kept.{KeepsRules}
@@ -24,10 +26,11 @@ abbrev pub place_noted : List (Option ℕ) → ℕ → ℕ → List (Option ℕ)
 place_noted table name place = if is_none (at_name table name) then slice_set table name (Some place) else table
 
 -- What is kept of a checked program: its rules, and its tables.
-pub record IsChecked (program : Program) (lengths : List ℕ) (arrays scalars : List (Option ℕ)) : Type 0 where
+pub record IsChecked (program : Program) (lengths : List ℕ) (arrays scalars : List (Option ℕ)) (locals : List (List ℕ)) : Type 0 where
   pub named : IsWellNamed program
   pub keeps : KeepsRules program
   pub few_decls : length program.decls < 2 ^ 32
   pub lengths_are : lengths ≡ sizes_of (arrays_of program.decls)
   pub arrays_are : (name : ℕ) → at_name arrays name ≡ array_of (arrays_of program.decls) name
   pub scalars_are : (name : ℕ) → at_name scalars name ≡ scalar_of program name
+  pub locals_are : AreLocalsByBody (arrays_of program.decls) (bodies_of program) locals

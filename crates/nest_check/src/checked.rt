@@ -1,14 +1,17 @@
-ghost use Rattle.std.specs.Prelude.{◌≡◌, ◌<◌, ◌≤◌, ◌^◌, length, sum, IfOk};
+ghost use Rattle.std.specs.Prelude.{◌≡◌, ◌<◌, ◌≤◌, ◌^◌, ◌↔◌, length, sum, IsTrue, IfOk};
 ghost use Rattle.nest_syntax.specs.Named.{IsWellNamed};
 ghost use Rattle.nest_syntax.specs.Arrays.{arrays_of, sizes_of, array_of};
 ghost use Rattle.nest_check.specs.Declarations.{first_of_each};
 ghost use Rattle.nest_check.specs.Entries.{scheduler_scalars};
 ghost use Rattle.nest_syntax.specs.Course.{bodies_of};
+ghost use Rattle.data_local.specs.DataLocals.{IsDataLocal};
+ghost use Rattle.data_local.specs.Bodies.{body_numbered};
 ghost use Rattle.nest_check.specs.Kept.{KeepsRules};
 ghost use Rattle.nest_check.specs.Tables.{scalar_of};
 
 use crate::copies::copy_program;
 use crate::tables::{array_names, declared_names, lengths_of, place_table};
+use data_local::{DataLocals, data_locals_by_body};
 use nest_syntax::{Line, NoMemory, Program};
 use std::alloc::Global;
 use std::marker::Model;
@@ -23,6 +26,8 @@ pub struct Checked {
     arrays: Vec<Option<u32>>,
     /// By the number of a name, the number of its scheduler scalar.
     scalars: Vec<Option<u32>>,
+    /// By the number of a body, its data locals.
+    locals: Vec<DataLocals>,
 }
 
 impl Model for Checked {
@@ -38,7 +43,7 @@ impl Model for Checked {
 
     ghost view = { λ c. c.program };
 
-    ghost invariant = { λ c. IsChecked c.program c.lengths.items c.arrays.items c.scalars.items };
+    ghost invariant = { λ c. IsChecked c.program c.lengths.items c.arrays.items c.scalars.items c.locals.items };
 }
 
 impl Checked {
@@ -50,7 +55,6 @@ impl Checked {
     ) -> Result<Checked, NoMemory>
         requires named { IsWellNamed program }
         requires keeps { KeepsRules program }
-        requires few { length program.decls < 2 ^ 32 }
         requires scalars { scalars.now ≡ first_of_each (scheduler_scalars program) }
         ensures { IfOk result (λ checked. checked ≡ program) }
     {
@@ -59,15 +63,17 @@ impl Checked {
         let arrays = place_table(alloc, array_names.as_slice())?;
         let scalar_names = declared_names(alloc, scalars)?;
         let scalars = place_table(alloc, scalar_names.as_slice())?;
+        let locals = data_locals_by_body(alloc, &program)?;
         Ok(Checked {
             program,
             lengths,
             arrays,
             scalars,
+            locals,
         })
     }
 
-    /// An equal value.
+    /// An equal value. Its data locals are found anew.
     pub fn copy(&self, alloc: Global) -> Result<Checked, NoMemory>
         ensures { IfOk result (λ copied. copied ≡ self.now) }
     {
@@ -76,6 +82,7 @@ impl Checked {
             lengths: Vec::from_slice(alloc, self.lengths.as_slice())?,
             arrays: Vec::from_slice(alloc, self.arrays.as_slice())?,
             scalars: Vec::from_slice(alloc, self.scalars.as_slice())?,
+            locals: data_locals_by_body(alloc, &self.program)?,
         })
     }
 
@@ -111,5 +118,15 @@ impl Checked {
         ensures { result ≡ scalar_of self.now name }
     {
         self.scalars.get(name as usize).copied().unwrap_or(None)
+    }
+    /// Whether a name is a data local of the body with this number. An array statement has none, and neither has a
+    /// number from that of the bodies on.
+    pub fn is_data(&self, body: u32, name: u32) -> bool
+        ensures { IsTrue result ↔ IsDataLocal (arrays_of self.now.decls) (body_numbered (bodies_of self.now) body) name }
+    {
+        match self.locals.get(body as usize) {
+            Some(found) => found.has(name),
+            None => false,
+        }
     }
 }

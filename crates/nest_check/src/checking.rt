@@ -9,8 +9,6 @@ use crate::refused::CheckRefused;
 use nest_syntax::Program;
 use std::alloc::Global;
 
-const MOST_DECLS: usize = 4_294_967_296;
-
 /// The program, checked, where it keeps all rules. Else the lowest rule that it breaks, at the lowest line that breaks
 /// it; the program is dropped then.
 pub fn check(alloc: Global, program: Program) -> Result<Checked, CheckRefused>
@@ -22,10 +20,6 @@ pub fn check(alloc: Global, program: Program) -> Result<Checked, CheckRefused>
     let judgement = judge(alloc, &program)?;
     if let Some((rule, line)) = judgement.broken {
         return Err(CheckRefused::Rule { rule, line });
-    }
-    // So many declarations, which repeat a name or declare too many, were refused before memory could hold them.
-    if MOST_DECLS <= program.decls.len() {
-        return Err(CheckRefused::NoMemory);
     }
     Ok(Checked::tabled(alloc, program, judgement.scalars.as_slice())?)
 }

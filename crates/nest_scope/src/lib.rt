@@ -11,4 +11,5 @@ mod scopes;
 mod walk;
 
 pub use breaches::ScopeBreaches;
+pub use occurrences::{Action, Binding, Level, Occurrence};
 pub use walk::scope_breaches;

@@ -6,7 +6,7 @@ use nest_syntax::Line;
 
 /// What a name is bound to.
 #[derive(Clone, Copy, Debug, PartialEq, Eq)]
-pub(crate) enum Binding {
+pub enum Binding {
     /// No declaration of the name is in scope.
     Unbound,
     Array,
@@ -22,7 +22,7 @@ pub(crate) enum Binding {
 
 /// Where a statement or a loop stands.
 #[derive(Clone, Copy, Debug, PartialEq, Eq)]
-pub(crate) enum Level {
+pub enum Level {
     /// Before or among the regions.
     Outside,
     /// Among the items of a region.
@@ -32,7 +32,7 @@ pub(crate) enum Level {
 
 /// What is done with a name where it stands.
 #[derive(Clone, Copy, Debug, PartialEq, Eq)]
-pub(crate) enum Action {
+pub enum Action {
     Declared,
     ScalarRead,
     /// A word of the array of this name is read.
@@ -45,7 +45,7 @@ pub(crate) enum Action {
 /// A place where a name stands: the line of the innermost statement, arm or loop that holds it, the level of that, what
 /// is done with the name, and what it is bound to there.
 #[derive(Clone, Copy, Debug, PartialEq, Eq)]
-pub(crate) struct Occurrence {
+pub struct Occurrence {
     pub line: Line,
     pub level: Level,
     pub action: Action,

@@ -1,0 +1,78 @@
+ghost use Rattle.std.specs.Prelude.{◌≡◌, ◌++◌, map, IfOk, OnOk};
+ghost use Rattle.std.specs.List.{flat_map};
+ghost use Rattle.nest_syntax.specs.Arrays.{arrays_of};
+ghost use Rattle.nest_syntax.specs.Course.{Setting, bodies_of};
+ghost use Rattle.data_local.specs.Givings.{givings};
+ghost use Rattle.data_local.specs.Bodies.{AreLocalsByBody, givings_in_item, givings_in_items};
+
+use crate::locals::{DataLocals, data_locals_of};
+use crate::written::WrittenArrays;
+use nest_syntax::{Arm, NoMemory, Program, Stmt};
+use std::alloc::Global;
+
+/// The data locals of each body of a program, in the order of the bodies' numbers.
+pub fn data_locals_by_body(alloc: Global, program: &Program) -> Result<Vec<DataLocals>, NoMemory>
+    ensures { IfOk result (λ sets. AreLocalsByBody (arrays_of program.now.decls) (bodies_of program.now) sets.items) }
+{
+    let written = WrittenArrays::new(alloc, program.decls.as_slice())?;
+    let bodies = giving_bodies(alloc, program)?;
+    let mut sets = Vec::new(alloc);
+    for body in &bodies {
+        sets.push(data_locals_of(alloc, &written, body)?)?;
+    }
+    Ok(sets)
+}
+
+// The bodies of a program in textual order. An array statement, which gives no scalar a value, stands as an empty body.
+fn giving_bodies<'a>(alloc: Global, program: &'a Program) -> Result<Vec<&'a [Stmt]>, NoMemory>
+    ensures { IfOk result (λ found. map (λ body. givings body.now) found.items ≡ map givings (bodies_of program.now)) }
+{
+    let mut found = Vec::new(alloc);
+    for region in program.regions.as_slice() {
+        add_bodies(region.body.as_slice(), &mut found)?;
+    }
+    Ok(found)
+}
+
+#[cycle(gather_bodies)]
+fn add_bodies<'a>(stmts: &'a [Stmt], found: &mut Vec<&'a [Stmt]>) -> Result<(), NoMemory>
+    ensures { OnOk result ((setting : Setting) → map (λ body. givings body.now) found.new.items ≡ map (λ body. givings body.now) found.old.items ++ givings_in_items setting stmts.now) }
+{
+    for stmt in stmts {
+        add_bodies_of(stmt, found)?;
+    }
+    Ok(())
+}
+
+#[cycle(gather_bodies)]
+fn add_bodies_of<'a>(stmt: &'a Stmt, found: &mut Vec<&'a [Stmt]>) -> Result<(), NoMemory>
+    ensures { OnOk result ((setting : Setting) → map (λ body. givings body.now) found.new.items ≡ map (λ body. givings body.now) found.old.items ++ givings_in_item setting stmt.now) }
+{
+    match stmt {
+        Stmt::Declare { .. } => Ok(()),
+        Stmt::Assign { .. } => Ok(()),
+        Stmt::Write { .. } => {
+            found.push(&[])?;
+            Ok(())
+        }
+        Stmt::If { arms, other } => {
+            add_bodies_of_arms(arms.as_slice(), found)?;
+            add_bodies(other.as_slice(), found)?;
+            Ok(())
+        }
+        Stmt::Loop(invoked) => {
+            found.push(invoked.body.as_slice())?;
+            Ok(())
+        }
+    }
+}
+
+#[cycle(gather_bodies)]
+fn add_bodies_of_arms<'a>(arms: &'a [Arm], found: &mut Vec<&'a [Stmt]>) -> Result<(), NoMemory>
+    ensures { OnOk result ((setting : Setting) → map (λ body. givings body.now) found.new.items ≡ map (λ body. givings body.now) found.old.items ++ flat_map (λ arm. givings_in_items setting arm.body) arms.now) }
+{
+    for arm in arms {
+        add_bodies(arm.body.as_slice(), found)?;
+    }
+    Ok(())
+}
