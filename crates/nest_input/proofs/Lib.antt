@@ -1,0 +1,4 @@
+pub mod Places
+pub mod OneFault
+pub mod OneNest
+pub mod Told
