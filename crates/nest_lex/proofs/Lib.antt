@@ -7,6 +7,7 @@ pub mod Words
 pub mod Numbering
 pub mod Reading
 pub mod OneDivision
+pub mod OnePiece
 pub mod OneReading
 pub mod Written
 pub mod OneAnswer

@@ -16,9 +16,8 @@ use Rattle.nest_lex.specs.declared.token.Kind.{Kind}
 use Rattle.nest_lex.specs.declared.token.Kind.TheVariants as kind
 use Rattle.nest_lex.specs.declared.token.Token.{Token}
 use Rattle.nest_parse.specs.declared.refused.Stop.{Stop}
-use Rattle.nest_parse.specs.First.{line_of}
 use Rattle.nest_parse.specs.Grammar.{token, sign, keyword, named, numeral, line, IsExpr, IsLevel, IsStep, behind, before, by, IsStatement, declares, assigns, writes, chooses, IsArm, an_arm, IsElses, no_else, else_if, last_else, IsLoop, a_loop, IsStatements, IsSigned, positive, negative, IsDecl, an_array, a_fixed_array, a_scalar, AreDecls, AreLoops}
-use Rattle.nest_parse.specs.Machine.{Item, This, Word, ThisName, AnyName, AnyNumber, Subscript, Assigns, Compare, Statements, Elses, BehindElse, LoopName, Step, StepTail, Decls, DeclTail, Signed, Loops, level_then, value_then, block_then, arm_then, header_then, initial_then, assigned_then, test_then, length_then, takes, skips, or_skip, step, stuck, Reads, ReadsNext, ReadsVariable, ReadsProgram, IsSign, IsWord, IsTheName, IsName, IsNumber, IsAssignment, IsComparison, IsExprThen, IsInitial, IsAssigned, IsBlock, IsBehind, IsArmAt, IsTest, IsBehindVariable, IsLength, IsBehindDeclared, IsScalar, TakesNone, is_name, is_mark, is_keyword}
+use Rattle.nest_parse.specs.Machine.{line_of, Item, This, Word, ThisName, AnyName, AnyNumber, Subscript, Assigns, Compare, Statements, Elses, BehindElse, LoopName, Step, StepTail, Decls, DeclTail, Signed, Loops, level_then, value_then, block_then, arm_then, header_then, initial_then, assigned_then, test_then, length_then, takes, skips, or_skip, step, stuck, Reads, ReadsNext, ReadsVariable, ReadsProgram, IsSign, IsWord, IsTheName, IsName, IsNumber, IsAssignment, IsComparison, IsExprThen, IsInitial, IsAssigned, IsBlock, IsBehind, IsArmAt, IsTest, IsBehindVariable, IsLength, IsBehindDeclared, IsScalar, TakesNone, is_name, is_mark, is_keyword}
 use Rattle.nest_parse.proofs.Complete.{skipped}
 use Rattle.nest_parse.proofs.Values.{left_there, no_place, place_opens}
 

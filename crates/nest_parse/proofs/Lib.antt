@@ -1,12 +1,3 @@
-pub mod Passes
-pub mod Joins
-pub mod Operands
-pub mod Parts
-pub mod WholeNest
-pub mod Equations
-pub mod Counts
-pub mod Names
-pub mod Whole
 pub mod Quiet
 pub mod Complete
 pub mod Viable

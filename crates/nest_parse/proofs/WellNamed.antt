@@ -1,10 +1,11 @@
 -- Where each name number among the tokens is below a count, so is each in the program that they derive.
 use Rattle.std.proofs.Common.{◌≡◌, ℕ, pos, ℤ, Bool, true, false, nat_lt, lt-ltb, List, ◌∷◌, length, map, refl, sym, ◌∙◌, subst, rules}
 use Rattle.std.specs.Prelude.{◌&&◌}
-use Rattle.std.specs.List.{list_all}
+use Rattle.std.specs.List.{list_all, AllByRecursion}
 use Rattle.std.proofs.lemmas.List.Elements.{recursion_from_All}
 use Rattle.nest_syntax.specs.declared.names.Line.{Line}
 use Rattle.nest_syntax.specs.declared.operators.Un.{Un}
+use Rattle.nest_syntax.specs.declared.operators.Bin.{Bin}
 use Rattle.nest_syntax.specs.declared.operators.Op.{Op}
 use Rattle.nest_syntax.specs.declared.tree.Expr.{Expr}
 use Rattle.nest_syntax.specs.declared.tree.Expr.TheVariants as expr
@@ -19,14 +20,28 @@ use Rattle.nest_syntax.specs.declared.tree.Program.{Program}
 use Rattle.nest_syntax.specs.Named.{expr_named, stmt_named, arm_named, header_named, loop_named, decl_named, IsWellNamed}
 use Rattle.nest_lex.specs.declared.token.Token.{Token}
 use Rattle.nest_lex.specs.declared.token.Tokens.{Tokens}
-use Rattle.nest_lex.specs.Text.{AreWellNamed}
+use Rattle.nest_lex.specs.Text.{IsKindWithin, AreWellNamed}
 use Rattle.nest_parse.specs.Grammar.{IsFactor, a_number, a_name, a_word, in_parentheses, signed, IsLevel, tightest, level, IsTail, ended, goes_on, IsExpr, plain, choice, IsStep, behind, before, by, IsStatement, declares, assigns, writes, chooses, turns, IsArm, an_arm, IsElses, no_else, else_if, last_else, IsLoop, a_loop, IsStatements, no_statement, statement, IsSigned, positive, negative, IsDecl, an_array, a_fixed_array, a_scalar, AreDecls, no_decl, declaration, AreLoops, no_loop, a_region, Derives}
-use Rattle.nest_parse.proofs.Equations.{named_number, named_scalar, named_word, named_binary}
-use Rattle.nest_parse.proofs.Names.{AllNamed}
 
 and_both : (a b : Bool) → a ≡ true → b ≡ true → a && b ≡ true
 and_both true b g h = h
 and_both false b g h = cc
+
+-- each name number among the tokens is below the count
+abbrev AllNamed : ℕ → List Token → Type 0
+AllNamed count tokens = AllByRecursion (λ (t : Token). IsKindWithin count t.kind) tokens
+
+named_number : (count : ℕ) (n : ℤ) → expr_named count (expr.Number n) ≡ true
+named_number count n = search (rules, the_lemmas)
+
+named_scalar : (count n : ℕ) → expr_named count (expr.Scalar n) ≡ nat_lt n count
+named_scalar count n = search (rules, the_lemmas)
+
+named_word : (count n : ℕ) (e : Expr) → expr_named count (expr.Word n e) ≡ nat_lt n count && expr_named count e
+named_word count n e = search (rules, the_lemmas)
+
+named_binary : (count : ℕ) (o : Bin) (a b : Expr) → expr_named count (expr.Binary o a b) ≡ expr_named count a && expr_named count b
+named_binary count o a b = search (rules, the_lemmas)
 
 named_unary : (count : ℕ) (o : Un) (e : Expr) → expr_named count (expr.Unary o e) ≡ expr_named count e
 named_unary count o e = search (rules, the_lemmas)

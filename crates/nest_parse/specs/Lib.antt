@@ -1,4 +1,2 @@
-pub mod First
-pub mod Reading
 pub mod Grammar
 pub mod Machine

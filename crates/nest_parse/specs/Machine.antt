@@ -151,6 +151,16 @@ stuck s (t ∷ ts) = elim (step t.kind s) [ None ↦ Some (t ∷ ts) | Some s' �
 abbrev pub start : List Item
 start = Decls ∷ Loops ∷ []
 
+-- the kind of the next token
+abbrev pub next_kind : List Token → Option Kind
+next_kind [] = None
+next_kind (next ∷ tokens) = Some next.kind
+
+-- the line of the next token, 0 at the end
+abbrev pub line_of : List Token → Line
+line_of [] = record { 0 = 0 }
+line_of (next ∷ tokens) = line next.spot
+
 -- What a function of the parser reads: a thing from `old` up to `new`, and what is expected at `old` is expected behind
 -- it; or else nothing goes on at `new`, whatever is expected behind the thing, or there was no memory.
 pub record Reads {X : Type 0} (Is : List Token → X → List Token → Type 0) (on : List Item → List Item) (old new : List Token) (result : Result X Stop) : Type 0 where

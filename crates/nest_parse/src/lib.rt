@@ -1,30 +1,25 @@
-//! The parser: bytes come in, the program that they spell goes out.
+//! The parser: tokens come in, the program that they spell goes out.
 //!
-//! `parse_first` reads texts of the first form: what it gives is the program of the bytes, and it refuses exactly the
-//! bytes that aren't of this form. The grammar is `specs/First`, the conditions are those of `nest_syntax`.
+//! `parse` gives the one program that the grammar derives from the tokens, and where there is none the first token at
+//! which they can't be a program's any more. The grammar is `specs/Grammar`; what a program means, and which programs
+//! keep the rules, is for other crates.
 #![tactic(auto)]
 
-mod build;
 mod cursor;
 mod declaration;
-mod expression;
-mod first;
-mod form;
 mod header;
 mod kinds;
 mod parser;
 mod refused;
 mod statement;
 mod tables;
-mod text;
 mod token_steps;
 mod value;
 
-pub use first::parse_first;
 pub use parser::parse;
-pub use refused::{FirstRefused, ParseRefused};
+pub use refused::ParseRefused;
 
 #[cfg(test)]
-mod grammar_tests;
+mod shown;
 #[cfg(test)]
 mod tests;

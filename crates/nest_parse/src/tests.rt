@@ -1,200 +1,163 @@
-use crate::{FirstRefused, parse_first};
-use nest_syntax::{Decl, Expr, Loop, Op, Program, Stmt};
+use crate::shown::{program_text, value_text};
+use crate::{ParseRefused, parse};
+use nest_lex::lex;
+use nest_syntax::Program;
 use std::alloc::{AllocError, Global};
 use std::process::Abort;
 use std::test::Fail;
 
-fn expr_text(alloc: Global, expr: &Expr) -> Result<String, AllocError> {
-    match expr {
-        Expr::Number(number) => format!(in alloc; "{number}"),
-        Expr::Scalar(name) => format!(in alloc; "n{name}"),
-        Expr::Word(name, place) => {
-            let place = expr_text(alloc, place.get())?;
-            format!(in alloc; "n{name}[{place}]")
-        }
-        Expr::Binary(op, left, right) => {
-            let left = expr_text(alloc, left.get())?;
-            let right = expr_text(alloc, right.get())?;
-            format!(in alloc; "({left} {op:?} {right})")
-        }
-        Expr::Unary(_, _) => format!(in alloc; "unary"),
-        Expr::Choice(_, _, _) => format!(in alloc; "choice"),
-    }
-}
-
-fn loop_text(alloc: Global, turns: &Loop) -> Result<String, AllocError> {
-    let line = turns.line.0;
-    let name = turns.name;
-    let low = expr_text(alloc, &turns.low)?;
-    let high = expr_text(alloc, &turns.high)?;
-    format!(in alloc; "{line}: n{name} {low} to {high}")
-}
-
-fn write_text(alloc: Global, stmt: &Stmt) -> Result<String, AllocError> {
-    match stmt {
-        Stmt::Write {
-            line,
-            array,
-            place,
-            op,
-            value,
-        } => {
-            let line = line.0;
-            let place = expr_text(alloc, place)?;
-            let value = expr_text(alloc, value)?;
-            format!(in alloc; "{line}: n{array}[{place}] {op:?} {value}")
-        }
-        _ => format!(in alloc; "other"),
-    }
-}
-
-fn decl_text(alloc: Global, decl: &Decl) -> Result<String, AllocError> {
-    match decl {
-        Decl::Array {
-            line,
-            name,
-            length,
-            fixed,
-        } => {
-            let line = line.0;
-            format!(in alloc; "{line}: n{name} of {length} {fixed}")
-        }
-        Decl::Scalar { .. } => format!(in alloc; "other"),
-    }
-}
-
-/// The parts of a program of the first form, each with its line. A name is its number.
-fn program_text(alloc: Global, program: &Program) -> Result<String, AllocError> {
-    let [decl] = program.decls.as_slice() else {
-        return format!(in alloc; "declarations");
-    };
-    let [outer] = program.regions.as_slice() else {
-        return format!(in alloc; "regions");
-    };
-    let [Stmt::Loop(inner)] = outer.body.as_slice() else {
-        return format!(in alloc; "loops");
-    };
-    let [stmt] = inner.body.as_slice() else {
-        return format!(in alloc; "statements");
-    };
-    let decl = decl_text(alloc, decl)?;
-    let outer = loop_text(alloc, outer)?;
-    let inner = loop_text(alloc, inner)?;
-    let write = write_text(alloc, stmt)?;
-    format!(in alloc; "{decl}; {outer}; {inner}; {write}")
-}
-
-/// What a text is read as, `form` where it isn't of the first form.
-fn reading(rt: &impl Abort, alloc: Global, text: &str) -> Result<String, AllocError> {
+/// The program of a text, or the number of the token at which the text is none any more.
+fn read(rt: &impl Abort, alloc: Global, text: &str) -> Result<Result<Program, usize>, AllocError> {
     let bytes = text.as_bytes();
     assert!(rt; bytes.len() <= 33_554_432);
-    match parse_first(alloc, bytes) {
+    let Ok(tokens) = lex(alloc, bytes) else {
+        return Err(AllocError);
+    };
+    match parse(alloc, &tokens) {
+        Ok(program) => Ok(Ok(program)),
+        Err(ParseRefused::Syntax { token }) => Ok(Err(token)),
+        Err(ParseRefused::NoMemory) => Err(AllocError),
+    }
+}
+
+/// What a text is read as.
+fn reading(rt: &impl Abort, alloc: Global, text: &str) -> Result<String, AllocError> {
+    match read(rt, alloc, text)? {
         Ok(program) => program_text(alloc, &program),
-        Err(FirstRefused::Form) => format!(in alloc; "form"),
-        Err(FirstRefused::NoMemory) => Err(AllocError),
+        Err(token) => format!(in alloc; "token {token}"),
+    }
+}
+
+/// What a value is read as. The name `t` is number 0 in it, the names that the value has are numbered from 1.
+fn value_reading(rt: &impl Abort, alloc: Global, value: &str) -> Result<String, AllocError> {
+    let text = format!(in alloc; "for (long t = 0; t < 1; t++) {{ t = {value}; }}")?;
+    match read(rt, alloc, text.as_str())? {
+        Ok(program) => value_text(alloc, &program),
+        Err(token) => format!(in alloc; "token {token}"),
     }
 }
 
 #[test]
-fn reads_each_part_with_its_line(rt: HostRuntime) -> Result<(), Fail> {
+fn reads_values(rt: HostRuntime) -> Result<(), Fail> {
     let alloc = rt.alloc();
-    for (text, want) in [
-        (
-            "long a[4];\nfor (long t = 0; t < 2; t++) {\n  for (long i = 0; i < 4; i++) {\n    a[i] = a[3 - i] + t * 10 + i;\n  }\n}\n",
-            "1: n0 of 4 false; 2: n1 0 to 2; 3: n2 0 to 4; 4: n0[n2] Set ((n0[(3 Sub n2)] Add (n1 Mul 10)) Add n2)",
-        ),
-        (
-            "\n\nlong\nsum[1048576];\nfor(long _=0;_<16777216;_++){for(long data=16777216;data<0;\ndata++){\nsum\n[_-data-1*2*3]=9223372036854775807;}}",
-            "3: n0 of 1048576 false; 5: n1 0 to 16777216; 5: n2 16777216 to 0; 7: n0[((n1 Sub n2) Sub ((1 Mul 2) Mul 3))] Set 9223372036854775807",
-        ),
+    for (text, tree) in [
+        ("9223372036854775807", "9223372036854775807"),
+        ("t", "n0"),
+        ("(((t)))", "n0"),
+        ("a[1]", "n1[1]"),
+        ("a[b[1] + 2]", "n1[(n2[1] Add 2)]"),
+        ("1 + 2 * 3", "(1 Add (2 Mul 3))"),
+        ("1 * 2 + 3", "((1 Mul 2) Add 3)"),
+        ("(1 + 2) * 3", "((1 Add 2) Mul 3)"),
+        ("1 - 2 - 3", "((1 Sub 2) Sub 3)"),
+        ("1 - (2 - 3)", "(1 Sub (2 Sub 3))"),
+        ("1 / 2 % 3 * 4", "(((1 Div 2) Rem 3) Mul 4)"),
+        ("1 << 2 + 3 >> 4", "((1 Shl (2 Add 3)) Shr 4)"),
+        ("1 < 2 << 3", "(1 Less (2 Shl 3))"),
+        ("1 <= 2 > 3 >= 4", "(((1 LessEq 2) More 3) MoreEq 4)"),
+        ("1 == 2 < 3 != 4", "((1 Equal (2 Less 3)) NotEqual 4)"),
+        ("1 & 2 == 3", "(1 And (2 Equal 3))"),
+        ("1 ^ 2 & 3", "(1 Xor (2 And 3))"),
+        ("1 | 2 ^ 3", "(1 Or (2 Xor 3))"),
+        ("1 && 2 | 3", "(1 Both (2 Or 3))"),
+        ("1 || 2 && 3", "(1 Either (2 Both 3))"),
+        ("1 && 2 || 3 && 4", "((1 Both 2) Either (3 Both 4))"),
+        ("1 || 2 ? 3 : 4", "((1 Either 2) ? 3 : 4)"),
+        ("1 ? 2 : 3 ? 4 : 5", "(1 ? 2 : (3 ? 4 : 5))"),
+        ("1 ? 2 ? 3 : 4 : 5", "(1 ? (2 ? 3 : 4) : 5)"),
+        ("!~-t", "(Not (Flip (Neg n0)))"),
+        ("-1 - -2", "((Neg 1) Sub (Neg 2))"),
+        ("-a[1] * b", "((Neg n1[1]) Mul n2)"),
+        ("-(1 + 2)", "(Neg (1 Add 2))"),
     ] {
-        assert_eq!(rt; reading(&rt, alloc, text)?.as_str(), want);
-    }
-    Ok(())
-}
-
-/// A text whose parts can be exchanged.
-fn text(
-    alloc: Global,
-    length: &str,
-    high: &str,
-    place: &str,
-    value: &str,
-) -> Result<String, AllocError> {
-    format!(in alloc;
-        "long a[{length}];\nfor (long t = 0; t < {high}; t++) {{\nfor (long i = 0; i < 4; i++) {{\na[{place}] = {value};\n}}\n}}\n"
-    )
-}
-
-#[test]
-fn refuses_other_forms(rt: HostRuntime) -> Result<(), Fail> {
-    let alloc = rt.alloc();
-    for (length, high, place, value, accepted) in [
-        ("4", "2", "i", "t", true),
-        ("0", "2", "i", "t", false),
-        ("1048577", "2", "i", "t", false),
-        ("4", "16777217", "i", "t", false),
-        ("4", "i", "i", "t", false),
-        (
-            "4",
-            "2",
-            "i + 1 + 1 + 1 + 1 + 1",
-            "t * a[i - 1] * 1 * 1 * 1 * 1",
-            true,
-        ),
-        (
-            "4",
-            "2",
-            "i + 1 + 1 + 1 + 1 + 1",
-            "t * a[i - 1] * 1 * 1 * 1 * 1 * 1 * 1",
-            false,
-        ),
-        ("4", "2", "a[i]", "t", false),
-        ("4", "2", "i", "a[a[i]]", false),
-        ("4", "2", "i", "t[i]", false),
-        ("4", "2", "i", "a", false),
-        ("4", "2", "i", "b", false),
-        ("4", "2", "(i)", "t", false),
-        ("4", "2", "i", "(t)", false),
-        ("4", "2", "i", "-t", false),
-        ("4", "2", "i", "t / 2", false),
-        ("4", "2", "i", "9223372036854775808", false),
-        ("4", "2", "i", "t +", false),
-        ("4", "2", "i", "t /* t */", false),
-        ("4", "2", "i", "t; a[i] = t", false),
-    ] {
-        let text = text(alloc, length, high, place, value)?;
-        let read = reading(&rt, alloc, text.as_str())?;
-        assert_eq!(rt; read.as_str() != "form", accepted, "{text}");
+        let found = value_reading(&rt, alloc, text)?;
+        assert_eq!(rt; found.as_str(), tree, "{text}");
     }
     Ok(())
 }
 
 #[test]
-fn refuses_other_texts(rt: HostRuntime) -> Result<(), Fail> {
+fn reads_declarations_statements_and_loops(rt: HostRuntime) -> Result<(), Fail> {
     let alloc = rt.alloc();
-    for text in [
-        "",
-        "long a[1];",
-        "const long a[4]; for (long t = 0; t < 2; t++) { for (long i = 0; i < 4; i++) { a[i] = t; } }",
-        "long a[4]; for (long t = 0; t < 2; t--) { for (long i = 0; i < 4; i++) { a[i] = t; } }",
-        "long a[4]; for (long t = 0; t <= 2; t++) { for (long i = 0; i < 4; i++) { a[i] = t; } }",
-        "long a[4]; for (long t = 0; t < 2; t += 1) { for (long i = 0; i < 4; i++) { a[i] = t; } }",
-        "long a[4]; for (long t = 0; u < 2; t++) { for (long i = 0; i < 4; i++) { a[i] = t; } }",
-        "long a[4]; for (long t = 0; t < 2; u++) { for (long i = 0; i < 4; i++) { a[i] = t; } }",
-        "long a[4]; for (long t = 0; t < 2; t++) { for (long t = 0; t < 4; t++) { a[t] = t; } }",
-        "long a[4]; for (long a = 0; a < 2; a++) { for (long i = 0; i < 4; i++) { a[i] = i; } }",
-        "long a[4]; for (long t = 0; t < 2; t++) { for (long a = 0; a < 4; a++) { a[a] = t; } }",
-        "long a[4]; for (long t = 0; t < 2; t++) { for (long i = 0; i < 4; i++) { b[i] = t; } }",
-        "long a[4]; for (long t = 0; t < 2; t++) { for (long i = 0; i < 4; i++) { a[i] += t; } }",
-        "long a[4]; for (long t = 0; t < 2; t++) { for (long i = 0; i < 4; i++) { a[i] = t; }",
-        "long a[4]; for (long t = 0; t < 2; t++) { for (long i = 0; i < 4; i++) { a[i] = t; } } }",
-        "long a[4]; for (long t = 0; t < 2; t++) { for (long i = 0; i < 4; i++) { a[i] = t; } }\ndata \t\r",
-        "long a[4]; for (long t = 0; t < 2; t++) { for (long i = 0; i < 4; i++) { a[i] = t; } }\nsteps\n0 1",
-        "long\ndata\n[4]; for (long t = 0; t < 2; t++) { for (long i = 0; i < 4; i++) { data[i] = t; } }",
-        "// first\nlong a[4]; for (long t = 0; t < 2; t++) { for (long i = 0; i < 4; i++) { a[i] = t; } }",
+    for (text, program) in [
+        ("", ""),
+        (
+            "long a[4];\nconst\nlong b[0];\n\nlong c = 5; long d = -9223372036854775807; long e = -0;",
+            " 1:n0[4]; 2:const n1[0]; 5:n2 = 5; 5:n3 = -9223372036854775807; 5:n4 = 0;",
+        ),
+        (
+            "for (long t = a + 1; t <= 2 << 3; ++t) { } for (long t = 0 ? 1 : 2;\nt < (1 < 2); t += 5) { }",
+            " 1:for n0 (n1 Add 1) <= (2 Shl 3) by 1 { } 1:for n0 (0 ? 1 : 2) < (1 Less 2) by 5 { }",
+        ),
+        (
+            "for (long t = 0; t < 1; t++) {\nlong x = 1; x = 2;\na\n[t] = x;\nfor (long i = 0; i < 2; i++) { a[i] += 3; }\n}",
+            " 1:for n0 0 < 1 by 1 { 2:long n1 = 1; 2:n1 Set 2; 3:n2[n0] Set n1; 5:for n3 0 < 2 by 1 { 5:n2[n3] Add 3; } }",
+        ),
+        (
+            "for (long t = 0; t < 1; t++) { t += 2; t -= 3; t *= 4; t /= 5; t %= 6; t <<= 7; t >>= 8; t &= 9; t ^= 10; t |= 11; }",
+            " 1:for n0 0 < 1 by 1 { 1:n0 Add 2; 1:n0 Sub 3; 1:n0 Mul 4; 1:n0 Div 5; 1:n0 Rem 6; 1:n0 Shl 7; 1:n0 Shr 8; 1:n0 And 9; 1:n0 Xor 10; 1:n0 Or 11; }",
+        ),
+        (
+            "for (long t = 0; t < 1; t++) { if (1) { } if (2) { if (3) { } } else { t = 4; } }",
+            " 1:for n0 0 < 1 by 1 { 1:if 1 { } else { } 1:if 2 { 1:if 3 { } else { } } else { 1:n0 Set 4; } }",
+        ),
+        (
+            "for (long t = 0; t < 1; t++) {\nif (t) {\nt = 1;\n} else if (2) {\n}\nelse\nif (3) { } else {\nt = 4; t = 5;\n}\n}",
+            " 1:for n0 0 < 1 by 1 { 2:if n0 { 3:n0 Set 1; } 4:if 2 { } 7:if 3 { } else { 8:n0 Set 4; 8:n0 Set 5; } }",
+        ),
     ] {
-        assert_eq!(rt; reading(&rt, alloc, text)?.as_str(), "form", "{text}");
+        let found = reading(&rt, alloc, text)?;
+        assert_eq!(rt; found.as_str(), program, "{text}");
+    }
+    Ok(())
+}
+
+#[test]
+fn names_the_first_token_that_cannot_follow(rt: HostRuntime) -> Result<(), Fail> {
+    let alloc = rt.alloc();
+    for (text, token) in [
+        ("x = 1;", "token 0"),
+        ("if (1) { }", "token 0"),
+        ("int a[1];", "token 0"),
+        ("const a[1];", "token 1"),
+        ("long a[];", "token 3"),
+        ("long a[-1];", "token 3"),
+        ("long a[1", "token 4"),
+        ("long a[1] = 1;", "token 5"),
+        ("long s = - - 1;", "token 4"),
+        ("long s = 1 + 2;", "token 4"),
+        ("long a[2];\na 1 2", "token 6"),
+        ("for (long t = 0; u < 1; t++) { }", "token 7"),
+        ("for (long t = 0; t > 1; t++) { }", "token 8"),
+        ("for (long t = 0; t < 1; u++) { }", "token 11"),
+        ("for (long t = 0; t < 1; t--) { }", "token 12"),
+        ("for (long t = 0; t < 1; ++u) { }", "token 12"),
+        ("for (long t = 0; t < 1; t += -1) { }", "token 13"),
+        ("for (long t = 0; t < 4 + 1 < 2; t++) { }", "token 12"),
+        ("for (long t = 0; t < 1; t++) { 1 = x; }", "token 15"),
+        ("for (long t = 0; t < 1; t++) { ; }", "token 15"),
+        ("for (long t = 0; t < 1; t++) { else { } }", "token 15"),
+        (
+            "for (long t = 0; t < 1; t++) { const long a[1]; }",
+            "token 15",
+        ),
+        ("for (long t = 0; t < 1; t++) { } long a[1];", "token 16"),
+        ("for (long t = 0; t < 1; t++) { long x; }", "token 17"),
+        ("for (long t = 0; t < 1; t++) { x = ; }", "token 17"),
+        ("for (long t = 0; t < 1; t++) { x[1 = 2; }", "token 18"),
+        ("for (long t = 0; t < 1; t++) { x = (1; }", "token 19"),
+        ("for (long t = 0; t < 1; t++) { x = 1 +; }", "token 19"),
+        ("for (long t = 0; t < 1; t++) { if (1) x = 1; }", "token 19"),
+        ("for (long t = 0; t < 1; t++) { x = 1 ? 2; }", "token 20"),
+        ("for (long t = 0; t < 1; t++) { x = 1; } }", "token 20"),
+        ("long a[1];\nfor (long t = 0; t < 1; t++) {\n", "token 21"),
+        (
+            "for (long t = 0; t < 1; t++) { if (1) { } else x = 1; }",
+            "token 22",
+        ),
+    ] {
+        let found = reading(&rt, alloc, text)?;
+        assert_eq!(rt; found.as_str(), token, "{text}");
     }
     Ok(())
 }

@@ -4,12 +4,9 @@ ghost use Rattle.std.specs.Bool.{OnTrue};
 ghost use Rattle.nest_parse.specs.Grammar as grammar;
 ghost use Rattle.nest_lex.specs.declared.token.Keyword.{Keyword};
 ghost use Rattle.nest_lex.specs.declared.token.Mark.{Mark};
-ghost use Rattle.nest_lex.specs.declared.token.Kind.{Kind};
 ghost use Rattle.nest_lex.specs.declared.token.Kind.TheVariants as kinds;
-ghost use Rattle.nest_lex.specs.declared.token.Spot.{Spot};
-ghost use Rattle.nest_parse.specs.Grammar.{token};
-ghost use Rattle.nest_parse.specs.Reading.{kind_at};
 ghost use Rattle.nest_parse.specs.Machine as machine;
+ghost use Rattle.nest_parse.specs.Machine.{next_kind};
 
 use crate::cursor::Cursor;
 use crate::kinds::{is_same_keyword, is_same_mark};
@@ -22,47 +19,39 @@ const GREATEST: u64 = 9_223_372_036_854_775_807;
 
 impl<'a> Cursor<'a> {
     pub(crate) fn next_mark(&self) -> Option<Mark>
-        ensures { MatchOption result ((m : Mark) → kind_at self.now 0 ≡ Some (kinds.Mark m) → ⊥) (λ m. kind_at self.now 0 ≡ Some (kinds.Mark m)) }
+        ensures { MatchOption result ((m : Mark) → next_kind self.now ≡ Some (kinds.Mark m) → ⊥) (λ m. next_kind self.now ≡ Some (kinds.Mark m)) }
     {
-        match self.kind_at(0) {
+        match self.next_kind() {
             Some(Kind::Mark(mark)) => Some(mark),
             _ => None,
         }
     }
 
     pub(crate) fn next_keyword(&self) -> Option<Keyword>
-        ensures { MatchOption result ((w : Keyword) → kind_at self.now 0 ≡ Some (kinds.Keyword w) → ⊥) (λ w. kind_at self.now 0 ≡ Some (kinds.Keyword w)) }
+        ensures { MatchOption result ((w : Keyword) → next_kind self.now ≡ Some (kinds.Keyword w) → ⊥) (λ w. next_kind self.now ≡ Some (kinds.Keyword w)) }
     {
-        match self.kind_at(0) {
+        match self.next_kind() {
             Some(Kind::Keyword(keyword)) => Some(keyword),
             _ => None,
         }
     }
 
     pub(crate) fn next_name(&self) -> Option<u32>
-        ensures { MatchOption result ((n : ℕ) → kind_at self.now 0 ≡ Some (kinds.Name n) → ⊥) (λ n. kind_at self.now 0 ≡ Some (kinds.Name n)) }
+        ensures { MatchOption result ((n : ℕ) → next_kind self.now ≡ Some (kinds.Name n) → ⊥) (λ n. next_kind self.now ≡ Some (kinds.Name n)) }
     {
-        match self.kind_at(0) {
+        match self.next_kind() {
             Some(Kind::Name(name)) => Some(name),
             _ => None,
         }
     }
 
     pub(crate) fn next_number(&self) -> Option<u64>
-        ensures { MatchOption result ((n : ℕ) → kind_at self.now 0 ≡ Some (kinds.Number n) → ⊥) (λ n. kind_at self.now 0 ≡ Some (kinds.Number n)) }
+        ensures { MatchOption result ((n : ℕ) → next_kind self.now ≡ Some (kinds.Number n) → ⊥) (λ n. next_kind self.now ≡ Some (kinds.Number n)) }
     {
-        match self.kind_at(0) {
+        match self.next_kind() {
             Some(Kind::Number(number)) => Some(number),
             _ => None,
         }
-    }
-
-    /// Passes the next token, if there is one.
-    pub(crate) fn skip(&mut self)
-        ensures passed { (kind : Kind) → kind_at self.old 0 ≡ Some kind → (spot : Spot) × (self.old ≡ token kind spot ∷ self.new) }
-        ensures shorter { (kind : Kind) → kind_at self.old 0 ≡ Some kind → length self.new < length self.old }
-    {
-        let _token = self.take();
     }
 
     /// Passes this mark.
@@ -151,7 +140,7 @@ impl<'a> Cursor<'a> {
         ensures reads { machine.Reads machine.IsAssignment (λ k. machine.Assigns ∷ k) self.old self.new result }
         ensures shorter { OnOk result (length self.new < length self.old) }
     {
-        let Some(kind) = self.kind_at(0) else {
+        let Some(kind) = self.next_kind() else {
             return Err(Stop::Fault);
         };
         let Some(op) = assignment(kind) else {
@@ -165,7 +154,7 @@ impl<'a> Cursor<'a> {
         ensures reads { machine.Reads machine.IsComparison (λ k. machine.Compare ∷ k) self.old self.new result }
         ensures shorter { OnOk result (length self.new < length self.old) }
     {
-        let Some(kind) = self.kind_at(0) else {
+        let Some(kind) = self.next_kind() else {
             return Err(Stop::Fault);
         };
         let Some(through) = comparison(kind) else {
@@ -180,7 +169,7 @@ impl<'a> Cursor<'a> {
         ensures takes { machine.TakesOperator depth self.old self.new result }
         ensures shorter { OnSome result (length self.new < length self.old) }
     {
-        let kind = self.kind_at(0)?;
+        let kind = self.next_kind()?;
         let (level, op) = binary(kind)?;
         if level != depth {
             return None;
@@ -194,7 +183,7 @@ impl<'a> Cursor<'a> {
         ensures takes { MatchOption result (machine.TakesNone (λ t. is_some (grammar.unary t)) self.old self.new) (λ o. machine.IsUnary self.old o self.new) }
         ensures shorter { OnSome result (length self.new < length self.old) }
     {
-        let kind = self.kind_at(0)?;
+        let kind = self.next_kind()?;
         let op = unary(kind)?;
         self.skip();
         Some(op)

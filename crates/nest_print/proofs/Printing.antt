@@ -1,28 +1,20 @@
 -- The texts of the longest pieces, put together from what is written one after another.
-use Rattle.std.proofs.Common.{◌≡◌, ℕ, Bool, true, false, List, [], ◌∷◌, ◌++◌, map, refl, sym, ◌∙◌, ap, codes, append_assoc, rules}
+use Rattle.std.proofs.Common.{◌≡◌, ℕ, Bool, true, false, List, [], ◌++◌, map, refl, sym, ◌∙◌, ap, codes, append_assoc}
 use Rattle.std.specs.Prelude.{if◌then◌else◌}
+use Rattle.std.proofs.lemmas.List.{append-nil}
 use Rattle.nest_print.specs.declared.print.Standing.{Standing}
 use Rattle.nest_print.specs.declared.print.Standing.TheVariants.{Operand}
 use Rattle.nest_syntax.specs.declared.tree.Expr.{Expr}
 use Rattle.nest_syntax.specs.declared.tree.Expr.TheVariants as expr
-use Rattle.nest_syntax.specs.declared.tree.Expr.TheFolds.{the_lemmas}
 use Rattle.nest_syntax.specs.declared.tree.Arm.{Arm}
 use Rattle.nest_syntax.specs.declared.tree.Stmt.{Stmt}
 use Rattle.nest_syntax.specs.declared.tree.Stmt.TheVariants as stmt
-use Rattle.nest_syntax.specs.declared.tree.Stmt.TheFolds.{the_lemmas as the_stmt_lemmas}
 use Rattle.nest_print.specs.Canonical.{expr_text, is_choice_enclosed, enclosed, arms_text, other_text, one_arm_text, statement_text}
-
-append_none : (xs : List ℕ) → xs ++ [] ≡ xs
-append_none [] = refl
-append_none (x ∷ xs) = ap (λ ys. x ∷ ys) (append_none xs)
-
-choice_text : (names : List (List ℕ)) (t f s : Expr) (standing : Standing) → expr_text names (expr.Choice t f s) standing
-    ≡ enclosed (is_choice_enclosed standing) (expr_text names t Operand ++ codes " ? " ++ expr_text names f Operand ++ codes " : " ++ expr_text names s Operand)
-choice_text names t f s standing = search (rules, the_lemmas)
+use Rattle.nest_print.proofs.Shown.{choice_text, if_text}
 
 in_brackets : (b : Bool) (o x : List ℕ) → ((o ++ (if b then codes "(" else [])) ++ x) ++ (if b then codes ")" else []) ≡ o ++ enclosed b x
 in_brackets true o x = simp append_assoc
-in_brackets false o x = append_none ((o ++ []) ++ x) ∙ ap (λ y. y ++ x) (append_none o)
+in_brackets false o x = append-nil ((o ++ []) ++ x) ∙ ap (λ y. y ++ x) (append-nil o)
 
 five : (o a b c d e : List ℕ) → ((((o ++ a) ++ b) ++ c) ++ d) ++ e ≡ o ++ (a ++ b ++ c ++ d ++ e)
 five o a b c d e = simp append_assoc
@@ -37,11 +29,7 @@ choice_shown names {t} {f} {s} {t'} {f'} {s'} standing {b} o {o1} {o2} {o3} {o4}
     ∙ (in_brackets b o (expr_text names t Operand ++ codes " ? " ++ expr_text names f Operand ++ codes " : " ++ expr_text names s Operand)
     ∙ (ap (λ x. o ++ enclosed x (expr_text names t Operand ++ codes " ? " ++ expr_text names f Operand ++ codes " : " ++ expr_text names s Operand)) eb ∙ ap (λ x. o ++ x) (sym (choice_text names t f s standing)))))
 
-pub if_text : (names : List (List ℕ)) (arms : List Arm) (other : List Stmt) (indent : List ℕ) → statement_text names (stmt.If arms other) indent
-    ≡ indent ++ arms_text indent (map (one_arm_text names) arms) ++ other_text indent (map (statement_text names) other) ++ codes "\n"
-if_text names arms other indent = search (rules, the_stmt_lemmas)
-
 pub if_shown : (names : List (List ℕ)) {arms arms' : List Arm} {other other' : List Stmt} (indent o : List ℕ) {o1 o2 o3 o4 : List ℕ} → o1 ≡ o ++ indent → arms' ≡ arms
     → o2 ≡ o1 ++ arms_text indent (map (one_arm_text names) arms') → other' ≡ other → o3 ≡ o2 ++ other_text indent (map (statement_text names) other') → o4 ≡ o3 ++ codes "\n"
     → o4 ≡ o ++ statement_text names (stmt.If arms other) indent
-if_shown names {arms} {arms'} {other} {other'} indent o e1 ea e2 eo e3 e4 = rw if_text (rw (e4, e3, e2, e1, ea, eo) (simp append_assoc))
+if_shown names {arms} {arms'} {other} {other'} indent o e1 ea e2 eo e3 e4 = rw (if_text names arms other indent) (rw (e4, e3, e2, e1, ea, eo) (simp append_assoc))
