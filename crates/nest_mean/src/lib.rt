@@ -6,13 +6,11 @@
 
 mod arrays;
 mod bodies;
-mod counts;
 mod courses;
 mod events;
 mod expressions;
 mod iterations;
 mod jobs;
-mod layouts;
 mod outcomes;
 mod plain;
 mod saved;
@@ -28,5 +26,3 @@ pub use outcomes::Outcome;
 pub use plain::run_plain;
 pub use values::Scalars;
 
-#[cfg(test)]
-mod tests;

@@ -17,7 +17,7 @@ use word_store::Words;
 pub fn run_plain(alloc: Global, job: &Job) -> Result<Outcome, NoMemory>
     ensures { IfOk result (λ r. r ≡ outcome job.now) }
 {
-    let program = job.program();
+    let program = job.checked().program();
     let mut scalars = first_scalars(alloc, program)?;
     let mut words = job.words().copy(alloc)?;
     let mut number = 0u64;
