@@ -17,7 +17,7 @@ use crate::tasks::parts_in;
 use addr_slice::Claims;
 use first_tasks::Position;
 use nest_mean::Job;
-use nest_syntax::NoMemory;
+use nest_syntax::{NoMemory, Program};
 use progress_board::{Ending, Engine, Facts, Options, Row};
 use std::alloc::Global;
 use std::marker::Model;
@@ -56,7 +56,7 @@ impl Domore {
         ensures { result ≡ option_map row_of (move_of self.now actor) }
     {
         self.table.row(
-            self.job.program(),
+            program_of(&self.job),
             self.options.workers,
             self.options.queue,
             actor,
@@ -155,6 +155,13 @@ impl Domore {
     }
 }
 
+// The program of a job.
+fn program_of(job: &Job) -> &Program
+    ensures { result.now ≡ job.now.program }
+{
+    job.checked().program()
+}
+
 // The table of a run of the job, with no iteration handed out.
 fn open_table(alloc: Global, job: &Job, options: Options) -> Result<Table, NoMemory>
     requires form { IsFirstForm job.now.program }
@@ -164,7 +171,7 @@ fn open_table(alloc: Global, job: &Job, options: Options) -> Result<Table, NoMem
     ensures options { IfOk result (λ table. table.tally.options ≡ options) }
     ensures runs { CanRun job.now }
 {
-    let length = parts_in(job.program()).length;
+    let length = parts_in(program_of(job)).length;
     let workers = options.workers;
     Ok(Table {
         words: job.words().copy(alloc)?,
@@ -200,7 +207,7 @@ fn step_table(job: &mut Job, options: Options, table: &mut Table, actor: u8, row
     ensures sound { IsSound (program_in job.old) options.workers table.new }
     ensures options { table.new.tally.options ≡ table.old.tally.options }
 {
-    let program = job.program();
+    let program = program_of(job);
     if actor < options.workers {
         table.make_worker(program, options.workers, options.queue, actor, row);
     } else {

@@ -22,6 +22,3 @@ mod ticket;
 mod wait;
 
 pub use domore::Domore;
-
-#[cfg(test)]
-mod tests;

@@ -46,7 +46,7 @@ impl Relay {
         requires { IsInRange options }
         ensures { result ≡ opening job options }
     {
-        let _program = job.program();
+        let _program = job.checked();
         Relay {
             job,
             options,

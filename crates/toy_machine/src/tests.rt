@@ -3,6 +3,7 @@ ghost use Rattle.progress_board.specs.Options.{IsInRange};
 
 use crate::relay::Relay;
 use lone_crew::lone_run;
+use nest_check::{CheckRefused, check};
 use nest_mean::Job;
 use nest_syntax::{NoMemory, Program};
 use progress_board::{Ask, Ending, Engine, Given, Machine, Options, Row, Sign, Work};
@@ -12,16 +13,20 @@ use std::process::Abort;
 use std::test::Fail;
 use word_store::Words;
 
+// The program without declarations and regions. It has no words.
 fn job(rt: &impl Abort, alloc: Global) -> Result<Job, NoMemory> {
     let program = Program {
         names: Items::new(alloc),
         decls: Items::new(alloc),
         regions: Items::new(alloc),
     };
-    let words = Words::zeros(alloc, &[])?;
-    let job = Job::new(program, words);
-    assert!(rt; job.is_some());
-    Ok(job.unwrap())
+    match check(alloc, program) {
+        Ok(checked) => Ok(Job::new(checked, Words::zeros(alloc, &[])?)),
+        Err(refused) => {
+            assert_eq!(rt; refused, CheckRefused::NoMemory);
+            Err(NoMemory)
+        }
+    }
 }
 
 fn options(workers: u8, queue: u16) -> Options

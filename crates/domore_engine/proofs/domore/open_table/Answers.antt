@@ -11,7 +11,7 @@ use Rattle.domore_engine.specs.Tallies.{Tallied}
 use Rattle.domore_engine.proofs.domore.open_table.Goals as goal
 
 pub open-requires-2-clause-words : goal.open-requires-2-clause-words
-open-requires-2-clause-words c = omega (arith, c.parts_in-length.ensures.size, (first-kept (first_form c.program.result.now)).few_words)
+open-requires-2-clause-words c = omega (arith, c.parts_in-length.ensures.size, (first-kept (first_form c.program_of.result.now)).few_words)
 
 pub returns-clause-sound : goal.returns-clause-sound
 returns-clause-sound c =
@@ -30,5 +30,5 @@ returns-clause-sound c =
         waits = omega (arith, ap (λ (t : Tallied). t.facts.waits) tally);
         crossing = omega (arith, ap (λ (t : Tallied). t.facts.crossing) tally);
       };
-      noted = c.in_ok-open.ensures (program_in job) (ap (λ (p : Program). (first_of (first_form p)).length) (sym c.program.ensures.same) ∙ sym c.parts_in-length.ensures.size);
+      noted = c.in_ok-open.ensures (program_in job) (ap (λ (p : Program). (first_of (first_form p)).length) (sym c.program_of.ensures) ∙ sym c.parts_in-length.ensures.size);
     }

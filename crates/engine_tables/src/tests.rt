@@ -1,16 +1,20 @@
 ghost use Rattle.std.specs.Prelude.{◌≡◌, ◌≤◌, IfOk};
+ghost use Rattle.nest_syntax.specs.Arrays.{arrays_of, sizes_of};
 ghost use Rattle.nest_syntax.specs.FirstForm.{IsFirstForm};
 ghost use Rattle.progress_board.specs.Options.{IsInRange};
 
-use crate::Domore;
+use domore_engine::Domore;
+use first_form::is_first_form;
 use lone_crew::lone_run;
+use nest_check::Checked;
+use nest_input::{InputRefused, read_nest, read_words};
 use nest_mean::Job;
-use nest_parse::{FirstRefused, parse_first};
-use nest_syntax::{Cause, Line, NoMemory, Place, Program};
+use nest_syntax::{Cause, Line, NoMemory, Place};
 use progress_board::{Ask, Ending, Engine, Facts, Given, Machine, Options, Row, Sign, Wait, Work};
 use std::alloc::Global;
 use std::process::Abort;
 use std::test::Fail;
+use word_store::Words;
 
 /// It gives the words 13 14 26 26.
 const MIRRORED: &[u8] = b"long a[4];
@@ -30,17 +34,45 @@ for (long t = 0; t < 1; t++) {
 }
 ";
 
-fn parsed(rt: &impl Abort, alloc: Global, text: &[u8]) -> Result<Program, NoMemory>
-    ensures { IfOk result (λ program. IsFirstForm program) }
-{
-    assert!(rt; text.len() <= 1000);
-    match parse_first(alloc, text) {
-        Ok(program) => Ok(program),
+// The program that an input spells.
+fn program_of(rt: &impl Abort, alloc: Global, input: &[u8]) -> Result<Checked, NoMemory> {
+    assert!(rt; input.len() <= 1000);
+    match read_nest(alloc, input) {
+        Ok(checked) => Ok(checked),
         Err(refused) => {
-            assert_eq!(rt; refused, FirstRefused::NoMemory);
+            assert_eq!(rt; refused, InputRefused::NoMemory);
             Err(NoMemory)
         }
     }
+}
+
+// The words that its data lines give.
+fn words_of(
+    rt: &impl Abort,
+    alloc: Global,
+    input: &[u8],
+    checked: &Checked,
+) -> Result<Words, NoMemory>
+    ensures { IfOk result (λ words. words.sizes ≡ sizes_of (arrays_of checked.now.decls)) }
+{
+    assert!(rt; input.len() <= 1000);
+    match read_words(alloc, input, checked) {
+        Ok(words) => Ok(words),
+        Err(refused) => {
+            assert_eq!(rt; refused, InputRefused::NoMemory);
+            Err(NoMemory)
+        }
+    }
+}
+
+// The job of an input whose program is of the first form.
+fn job_of(rt: &impl Abort, alloc: Global, input: &[u8]) -> Result<Job, NoMemory>
+    ensures { IfOk result (λ job. IsFirstForm job.program) }
+{
+    let checked = program_of(rt, alloc, input)?;
+    assert!(rt; is_first_form(checked.program()));
+    let words = words_of(rt, alloc, input, &checked)?;
+    Ok(Job::new(checked, words))
 }
 
 fn options(workers: u8, queue: u16) -> Options
@@ -69,7 +101,7 @@ fn open(
     assert!(rt; workers <= 8);
     assert!(rt; queue >= 1);
     assert!(rt; queue <= 1024);
-    let job = Job::first(alloc, parsed(rt, alloc, text)?)?;
+    let job = job_of(rt, alloc, text)?;
     Domore::open(alloc, job, options(workers, queue))
 }
 
