@@ -24,9 +24,6 @@ use Rattle.first_tasks.proofs.Forms.{form_of, own_form}
 use Rattle.first_tasks.proofs.Setups.{right}
 use Rattle.domore_engine.specs.Engine.{Engine, Table, measure, setup_of, nest_in, program_in, opening, step, is_finished, ending_at}
 use Rattle.domore_engine.specs.Laws.{led}
-use Rattle.nest_syntax.specs.Arrays.{arrays_of}
-use Rattle.nest_syntax.specs.declared.tree.Decl.{Decl}
-use Rattle.nest_syntax.specs.declared.tree.Decl.TheVariants as decl
 use Rattle.nest_syntax.specs.declared.names.NoMemory.{NoMemory}
 use Rattle.progress_board.specs.declared.options.Options.{Options}
 use Rattle.progress_board.specs.Actors.{actors_of}
@@ -85,9 +82,3 @@ alone_due (Ok reply) job form own options o start e s before after b t a finishe
     let after_is : after ≡ rotation_of job = t ∙ ap (λ (x : List ℕ). x ++ rotation step measure start (actors_of start.options) []) b ∙ ap (λ (x : Engine). rotation step measure x (actors_of x.options) []) start_is in
     let ran : run step (opening job alone_options) a.made ≡ Some e = subst (λ (x : Engine). run step x a.made ≡ Some e) start_is a.ran in
     h ∙ ap (λ (x : List ℕ). told e x) after_is ∙ told_due job form a.made e ran finished ∙ ap (λ (j : Nest). reported j (ending job.program job.opening.words)) own
-
--- there are no more arrays than declarations
-pub few_arrays : (decls : List Decl) → length (arrays_of decls) ≤ length decls
-few_arrays [] = omega arith
-few_arrays (decl.Array line name size fixed ∷ decls) = omega (arith, few_arrays decls)
-few_arrays (decl.Scalar line name value ∷ decls) = omega (arith, few_arrays decls)

@@ -1,5 +1,6 @@
 pub mod Words
 pub mod Report
+pub mod Refusals
 pub mod Answers
 pub mod Told
 pub mod Ends

@@ -4,8 +4,7 @@ ghost use Rattle.nest_data.specs.Text.{array_lines};
 ghost use Rattle.domore_engine.specs.Engine.{is_finished, ending_of};
 ghost use Rattle.progress_board.specs.Runs.{IsLegal};
 ghost use Rattle.domore_engine.specs.Engine.{opening, step};
-ghost use Rattle.cross_cli.specs.Answers.{acted, alone_options, job_of};
-ghost use Rattle.cross_cli.specs.declared.words.Action.TheVariants.{Alone};
+ghost use Rattle.cross_cli.specs.Answers.{alone_answer, alone_options, job_of};
 ghost use Rattle.cross_cli.specs.Told.{told, done_text};
 
 use crate::answers::Reply;
@@ -13,7 +12,7 @@ use crate::report::domore_report;
 use crate::status::Status;
 use domore_engine::Domore;
 use lone_crew::lone_run;
-use nest_data::print_words;
+use nest_data::print_checked_words;
 use nest_mean::Job;
 use nest_report::print_place;
 use nest_syntax::NoMemory;
@@ -25,7 +24,7 @@ use word_store::Words;
 pub fn alone(alloc: Global, job: Job) -> Result<Reply, NoMemory>
     requires form { IsFirstForm job.program }
     requires own { job ≡ job_of job.program job.opening.words }
-    ensures { IfOk result (λ reply. reply ≡ acted Alone job.program job.opening.words) }
+    ensures { IfOk result (λ reply. reply ≡ alone_answer job.program job.opening.words) }
 {
     let mut machine = Domore::open(alloc, job, alone_options())?;
     let mut history = Vec::new(alloc);
@@ -87,12 +86,6 @@ fn arrays_text(alloc: Global, job: &Job, words: &Words) -> Result<Vec<u8>, NoMem
     requires { words.now.sizes ≡ job.now.opening.sizes }
     ensures { IfOk result (λ text. text.items ≡ array_lines job.now.program.names words.now 0 job.now.program.decls) }
 {
-    let program = job.program();
-    let text = print_words(
-        alloc,
-        words,
-        program.names.as_slice(),
-        program.decls.as_slice(),
-    )?;
+    let text = print_checked_words(alloc, words, job.checked())?;
     Ok(text)
 }

@@ -1,4 +1,5 @@
-//! The program `cross`: reads a nest from standard input, and prints its outcome.
+//! The program `cross`: reads a nest with its data lines from standard input, and prints its outcome or its canonical
+//! text.
 //!
 //! `cross_quiet` is the top call, over any source and sink; `main` gives it the real streams.
 #![tactic(auto)]
@@ -6,7 +7,10 @@
 mod alone;
 mod answers;
 mod laws;
+mod refusals;
 mod report;
+#[cfg(test)]
+mod rows;
 mod status;
 #[cfg(test)]
 mod tests;

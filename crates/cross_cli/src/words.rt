@@ -4,8 +4,10 @@ ghost use Rattle.cross_cli.specs.Words.{action_of, action_named};
 /// What the program is asked to do.
 #[derive(Clone, Copy, Debug, PartialEq, Eq)]
 pub enum Action {
-    /// Runs the nest in textual order and prints its outcome.
+    /// Runs the nest on its data lines in textual order and prints its outcome.
     Plain,
+    /// Reads the nest alone and prints its canonical text.
+    Check,
     /// Runs the engine `domore` on one thread, and prints outcome and report.
     Alone,
 }
@@ -25,6 +27,8 @@ fn action_named(word: &str) -> Option<Action>
 {
     if word == "plain" {
         Some(Action::Plain)
+    } else if word == "check" {
+        Some(Action::Check)
     } else if word == "alone" {
         Some(Action::Alone)
     } else {

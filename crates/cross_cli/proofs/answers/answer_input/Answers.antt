@@ -1,8 +1,8 @@
-use Rattle.cross_cli.proofs.Replies.{text_answered, other_answered}
+use Rattle.cross_cli.proofs.Replies.{program_answered, refusal_answered}
 use Rattle.cross_cli.proofs.answers.answer_input.Goals as goal
 
 pub returns-in-Ok : goal.returns-in-Ok
-returns-in-Ok c = text_answered c.act.result c.args.action c.args.input.now c.in-Ok.program c.requires c.in-Ok.ensures.program c.in-Ok.ensures.only c.act.ensures
+returns-in-Ok c = program_answered c.answer_program.result c.args.action c.args.input.now c.in-Ok.checked c.requires c.in-Ok.ensures c.answer_program.ensures
 
-pub returns-in-Err-Form : goal.returns-in-Err-Form
-returns-in-Err-Form c = other_answered c.refusal.result c.args.action c.args.input.now c.requires (λ program first. let no_memory = c.in-Err-Form.ensures.only program first in cc) c.refusal.ensures
+pub returns-in-Err-Refused : goal.returns-in-Err-Refused
+returns-in-Err-Refused c = refusal_answered c.refused.result c.args.action c.args.input.now c.in-Err-Refused.why c.requires c.in-Err-Refused.ensures c.refused.ensures
