@@ -86,3 +86,16 @@ for (long t = 0; t < 2; t++) {
     assert_eq!(rt; data_locals(alloc, &kept)?.as_str(), "1.5 1.6 3.7 3.9 4.9 ");
     Ok(())
 }
+
+/// What it takes to hand a value to another thread.
+fn handed_over<T: Send + Drop>(value: T) -> T {
+    value
+}
+
+#[test]
+fn a_checked_program_may_cross_threads(rt: HostRuntime) -> Result<(), Fail> {
+    let alloc = rt.alloc();
+    let kept = handed_over(checked(&rt, alloc, "long a[4];")?);
+    assert_eq!(rt; numbers(alloc, &kept)?.as_str(), "4 a0 ");
+    Ok(())
+}

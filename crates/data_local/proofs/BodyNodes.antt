@@ -1,4 +1,4 @@
--- The bodies of each kind of statement, by what they give, and sets that are kept one body after another.
+-- The bodies of each kind of statement, by what they give, and lists of names that are kept one body after another.
 use Rattle.std.proofs.Common.{◌≡◌, false, ℕ, zero, suc, ◌+◌, ◌<◌, ◌↔◌, IsTrue, List, [], ◌∷◌, ◌++◌, map, length, take, get_or, refl, sym, ap, ◌∙◌, subst, append_assoc}
 use Rattle.std.specs.Prelude.{slice_index_or}
 use Rattle.std.specs.List.{flat_map}
@@ -17,8 +17,9 @@ use Rattle.nest_syntax.specs.declared.tree.Program.{Program}
 use Rattle.nest_syntax.specs.Arrays.{Array}
 use Rattle.nest_syntax.specs.Course.{Setting, Item, Tested, Looped, in_order, chosen, region_of, setting_of, bodies_of, item_of}
 use Rattle.nest_syntax.proofs.Equations.{tested_of, item-declare, item-assign, item-write, item-if, item-loop, looped-is, tested-is}
+use Rattle.data_local.specs.Names.{is_among}
 use Rattle.data_local.specs.Givings.{Given, Tried, Giving, given, given_node, tried_node, given_loop_node, givings}
-use Rattle.data_local.specs.DataLocals.{IsGivenData, has}
+use Rattle.data_local.specs.DataLocals.{IsGivenData}
 use Rattle.data_local.specs.Bodies.{AreLocalsByBody, givings_in_item, givings_in_items}
 
 given-write : (line : Line) (name : ℕ) (p : Expr) (o : Op) (e : Expr) → given (stmt.Write line name p o e) ≡ (λ tests. [])
@@ -82,25 +83,25 @@ module _ (setting : Setting) where
 pub program_gives : (program : Program) → flat_map (λ (l : Loop). givings_in_items (setting_of program []) l.body) program.regions ≡ map givings (bodies_of program)
 program_gives program = sym (regions_give (setting_of program []) program.regions)
 
--- sets of names, one for each of these lists of givings
+-- lists of names, one for each of these lists of givings
 abbrev pub Kept : List Array → List (List Giving) → List (List ℕ) → Type 0
 Kept arrays [] [] = Unit {0}
-Kept arrays [] (set ∷ sets) = ⊥
+Kept arrays [] (names ∷ lists) = ⊥
 Kept arrays (gs ∷ given) [] = ⊥
-Kept arrays (gs ∷ given) (set ∷ sets) = ((name : ℕ) → IsTrue (has set name) ↔ IsGivenData arrays gs name) × Kept arrays given sets
+Kept arrays (gs ∷ given) (names ∷ lists) = ((name : ℕ) → IsTrue (is_among names name) ↔ IsGivenData arrays gs name) × Kept arrays given lists
 
-keeps_more : (arrays : List Array) (given : List (List Giving)) (sets : List (List ℕ)) (gs : List Giving) (set : List ℕ) → ((name : ℕ) → IsTrue (has set name) ↔ IsGivenData arrays gs name)
-    → Kept arrays given sets → Kept arrays (given ++ gs ∷ []) (sets ++ set ∷ [])
-keeps_more arrays [] [] gs set is kept = (is, tt)
-keeps_more arrays [] (other ∷ sets) gs set is kept = absurd kept
-keeps_more arrays (first ∷ given) [] gs set is kept = absurd kept
-keeps_more arrays (first ∷ given) (other ∷ sets) gs set is kept = (kept.0, keeps_more arrays given sets gs set is kept.1)
+keeps_more : (arrays : List Array) (given : List (List Giving)) (lists : List (List ℕ)) (gs : List Giving) (names : List ℕ) → ((name : ℕ) → IsTrue (is_among names name) ↔ IsGivenData arrays gs name)
+    → Kept arrays given lists → Kept arrays (given ++ gs ∷ []) (lists ++ names ∷ [])
+keeps_more arrays [] [] gs names is kept = (is, tt)
+keeps_more arrays [] (other ∷ lists) gs names is kept = absurd kept
+keeps_more arrays (first ∷ given) [] gs names is kept = absurd kept
+keeps_more arrays (first ∷ given) (other ∷ lists) gs names is kept = (kept.0, keeps_more arrays given lists gs names is kept.1)
 
-pub kept_next : {A : Type 0} (arrays : List Array) (f : A → List Giving) (xs : List A) (i : ℕ) → i < length xs → (here : A) → here ≡ get_or xs i here → (sets sets' : List (List ℕ)) (set : List ℕ)
-    → sets' ≡ sets ++ set ∷ [] → ((name : ℕ) → IsTrue (has set name) ↔ IsGivenData arrays (f here) name) → Kept arrays (map f (take i xs)) sets → Kept arrays (map f (take (i + 1) xs)) sets'
-kept_next arrays f xs i there here is sets sets' set more each kept =
+pub kept_next : {A : Type 0} (arrays : List Array) (f : A → List Giving) (xs : List A) (i : ℕ) → i < length xs → (here : A) → here ≡ get_or xs i here → (lists lists' : List (List ℕ)) (names : List ℕ)
+    → lists' ≡ lists ++ names ∷ [] → ((name : ℕ) → IsTrue (is_among names name) ↔ IsGivenData arrays (f here) name) → Kept arrays (map f (take i xs)) lists → Kept arrays (map f (take (i + 1) xs)) lists'
+kept_next arrays f xs i there here is lists lists' names more each kept =
     subst (λ ss. Kept arrays (map f (take (i + 1) xs)) ss) (sym more)
-    (subst (λ gs. Kept arrays gs (sets ++ set ∷ [])) (sym given) (keeps_more arrays (map f (take i xs)) sets (f here) set each kept))
+    (subst (λ gs. Kept arrays gs (lists ++ names ∷ [])) (sym given) (keeps_more arrays (map f (take i xs)) lists (f here) names each kept))
   where
     given : map f (take (i + 1) xs) ≡ map f (take i xs) ++ f here ∷ []
     given = ap (map f) (take_more xs i here there) ∙ ap (λ x. map f (take i xs ++ x ∷ [])) (sym is) ∙ map-append f (take i xs) (here ∷ [])
@@ -112,19 +113,19 @@ none_given arrays name (IsGivenData.by_local giving e other one h a d) = absurd 
 none_true : IsTrue false → ⊥
 none_true h = cc
 
-pub all_kept : (arrays : List Array) (bodies : List (List Stmt)) (sets : List (List ℕ)) → Kept arrays (map givings bodies) sets → AreLocalsByBody arrays bodies sets
-all_kept arrays bodies sets kept = record { as_many = many bodies sets kept; each = each bodies sets kept }
+pub all_kept : (arrays : List Array) (bodies : List (List Stmt)) (lists : List (List ℕ)) → Kept arrays (map givings bodies) lists → AreLocalsByBody arrays bodies lists
+all_kept arrays bodies lists kept = record { as_many = many bodies lists kept; each = each bodies lists kept }
   where
-    many : (bodies : List (List Stmt)) (sets : List (List ℕ)) → Kept arrays (map givings bodies) sets → length sets ≡ length bodies
+    many : (bodies : List (List Stmt)) (lists : List (List ℕ)) → Kept arrays (map givings bodies) lists → length lists ≡ length bodies
     many [] [] kept = refl
-    many [] (set ∷ sets) kept = absurd kept
+    many [] (names ∷ lists) kept = absurd kept
     many (body ∷ bodies) [] kept = absurd kept
-    many (body ∷ bodies) (set ∷ sets) kept = ap suc (many bodies sets kept.1)
+    many (body ∷ bodies) (names ∷ lists) kept = ap suc (many bodies lists kept.1)
 
-    each : (bodies : List (List Stmt)) (sets : List (List ℕ)) → Kept arrays (map givings bodies) sets → (number name : ℕ)
-        → IsTrue (has (slice_index_or sets number []) name) ↔ IsGivenData arrays (givings (slice_index_or bodies number [])) name
+    each : (bodies : List (List Stmt)) (lists : List (List ℕ)) → Kept arrays (map givings bodies) lists → (number name : ℕ)
+        → IsTrue (is_among (slice_index_or lists number []) name) ↔ IsGivenData arrays (givings (slice_index_or bodies number [])) name
     each [] [] kept number name = (λ h. absurd (none_true h), λ h. absurd (none_given arrays name h))
-    each [] (set ∷ sets) kept number name = absurd kept
+    each [] (names ∷ lists) kept number name = absurd kept
     each (body ∷ bodies) [] kept number name = absurd kept
-    each (body ∷ bodies) (set ∷ sets) kept zero name = kept.0 name
-    each (body ∷ bodies) (set ∷ sets) kept (suc number) name = each bodies sets kept.1 number name
+    each (body ∷ bodies) (names ∷ lists) kept zero name = kept.0 name
+    each (body ∷ bodies) (names ∷ lists) kept (suc number) name = each bodies lists kept.1 number name

@@ -14,7 +14,7 @@ use Rattle.data_local.specs.declared.rows.Row.{Row}
 use Rattle.data_local.specs.declared.rows.Row.TheVariants as row
 use Rattle.data_local.specs.Names.{scalars_in, is_among}
 use Rattle.data_local.specs.Givings.{Giving, givings}
-use Rattle.data_local.specs.DataLocals.{IsOne, IsGivenData, by_array, by_local, AreDataLocals}
+use Rattle.data_local.specs.DataLocals.{IsOne, IsGivenData, IsDataLocal, by_array, by_local}
 use Rattle.data_local.specs.Rows.{tests_at, told, IsBuilt, node_of_name, node_of_test, edges_from, edges_to, row_edges, start_of, row_starts}
 use Rattle.data_local.proofs.Parts.{either, or_left, or_right, both_left, both_right, any_reverse, one_left, one_right, one_parts}
 
@@ -266,10 +266,10 @@ complete arrays rows starts edges drawn name (by_array g e one dep written) = gi
 complete arrays rows starts edges drawn name (by_local g e other one dep named local) =
     giving_reached arrays rows starts edges drawn g e one dep (inr (other, named, complete arrays rows starts edges drawn other local))
 
-pub locals_are : (arrays : List Array) (body : List Stmt) (rows : List Row) (starts : List ℕ) (edges : List Edge) (nodes : List ℕ)
+pub reached_are : (arrays : List Array) (body : List Stmt) (rows : List Row) (starts : List ℕ) (edges : List Edge) (nodes : List ℕ)
     → told (reverse rows) ≡ givings body → IsBuilt (reverse rows) → starts ≡ flat_map (row_starts arrays) rows → edges ≡ flat_map row_edges rows
-    → ((v : ℕ) → IsTrue (is_among nodes v) ↔ IsReached starts edges v) → AreDataLocals arrays body nodes
-locals_are arrays body rows starts edges nodes tells built starts_are edges_are found name = (
+    → ((v : ℕ) → IsTrue (is_among nodes v) ↔ IsReached starts edges v) → (name : ℕ) → IsTrue (is_among nodes (node_of_name name)) ↔ IsDataLocal arrays body name
+reached_are arrays body rows starts edges nodes tells built starts_are edges_are found name = (
   (λ h. subst (λ gs. IsGivenData arrays gs name) tells ((sound arrays (reverse rows) starts edges built into_starts into_edges (node_of_name name) ((found (node_of_name name)).0 h)).of_name name refl)),
   (λ h. (found (node_of_name name)).1 (complete arrays (reverse rows) starts edges drawn name (subst (λ gs. IsGivenData arrays gs name) (sym tells) h))),
 )

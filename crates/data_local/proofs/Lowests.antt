@@ -11,7 +11,7 @@ use Rattle.nest_syntax.specs.Arrays.{Array}
 use Rattle.nest_syntax.specs.Value.{names_written}
 use Rattle.lowest_line.specs.Lowest.{lower, lower_of}
 use Rattle.data_local.specs.Names.{scalars_in, is_among}
-use Rattle.data_local.specs.DataLocals.{IsOne, IsData, AreDataLocals, has}
+use Rattle.data_local.specs.DataLocals.{IsOne, IsData, AreDataLocals}
 use Rattle.data_local.specs.Loops.{loops_in}
 use Rattle.data_local.specs.Bounds.{HasDataBoundIn, IsLowest}
 use Rattle.data_local.specs.Breaches.{is_data, has_data_bound, lines_where, lower_if, IsAtMost, Lowers}
@@ -123,32 +123,32 @@ where_one test (first ∷ loops) line h = by_test (λ later. where_one test loop
     by_test go false e later = let at = go later in (at.0, inr at.1, at.2, at.3)
 
 -- the test of an expression, both ways
-any_local : (locals names : List ℕ) → list_any (has locals) names ≡ true → (name : ℕ) × (is_among names name ≡ true) × (has locals name ≡ true)
+any_local : (locals names : List ℕ) → list_any (is_among locals) names ≡ true → (name : ℕ) × (is_among names name ≡ true) × (is_among locals name ≡ true)
 any_local locals [] e = absurd cc
-any_local locals (first ∷ names) e = by_either (λ later. any_local locals names later) (either (has locals first) (list_any (has locals) names) e)
+any_local locals (first ∷ names) e = by_either (λ later. any_local locals names later) (either (is_among locals first) (list_any (is_among locals) names) e)
   where
-    by_either : (list_any (has locals) names ≡ true → (name : ℕ) × (is_among names name ≡ true) × (has locals name ≡ true)) → (has locals first ≡ true) ⊎ (list_any (has locals) names ≡ true)
-        → (name : ℕ) × (is_among (first ∷ names) name ≡ true) × (has locals name ≡ true)
+    by_either : (list_any (is_among locals) names ≡ true → (name : ℕ) × (is_among names name ≡ true) × (is_among locals name ≡ true)) → (is_among locals first ≡ true) ⊎ (list_any (is_among locals) names ≡ true)
+        → (name : ℕ) × (is_among (first ∷ names) name ≡ true) × (is_among locals name ≡ true)
     by_either go (inl here) = (first, or_left (first == first) (is_among names first) (eq-eqb first first refl), here)
     by_either go (inr later) = let at = go later in (at.0, or_right (at.0 == first) (is_among names at.0) at.1, at.2)
 
-local_any : (locals names : List ℕ) (name : ℕ) → is_among names name ≡ true → has locals name ≡ true → list_any (has locals) names ≡ true
+local_any : (locals names : List ℕ) (name : ℕ) → is_among names name ≡ true → is_among locals name ≡ true → list_any (is_among locals) names ≡ true
 local_any locals [] name e h = e
 local_any locals (first ∷ names) name e h = by_either (λ later. local_any locals names name later h) (either (name == first) (is_among names name) e)
   where
-    by_either : (is_among names name ≡ true → list_any (has locals) names ≡ true) → ((name == first) ≡ true) ⊎ (is_among names name ≡ true) → (has locals first || list_any (has locals) names) ≡ true
-    by_either go (inl same) = or_left (has locals first) (list_any (has locals) names) (ap (has locals) (sym (eqb-true name first same)) ∙ h)
-    by_either go (inr later) = or_right (has locals first) (list_any (has locals) names) (go later)
+    by_either : (is_among names name ≡ true → list_any (is_among locals) names ≡ true) → ((name == first) ≡ true) ⊎ (is_among names name ≡ true) → (is_among locals first || list_any (is_among locals) names) ≡ true
+    by_either go (inl same) = or_left (is_among locals first) (list_any (is_among locals) names) (ap (is_among locals) (sym (eqb-true name first same)) ∙ h)
+    by_either go (inr later) = or_right (is_among locals first) (list_any (is_among locals) names) (go later)
 
 data_is : (arrays : List Array) (body : List Stmt) (locals : List ℕ) (e : Expr) → AreDataLocals arrays body locals → is_data arrays locals e ≡ true → IsData arrays body e
-data_is arrays body locals e are h = elim (either (names_written arrays e) (list_any (has locals) (scalars_in e)) h) [
+data_is arrays body locals e are h = elim (either (names_written arrays e) (list_any (is_among locals) (scalars_in e)) h) [
   | inl written ↦ inl written
   | inr local ↦ let at = any_local locals (scalars_in e) local in inr (at.0, at.1, (are at.0).0 at.2)
 ]
 
 is_data_of : (arrays : List Array) (body : List Stmt) (locals : List ℕ) (e : Expr) → AreDataLocals arrays body locals → IsData arrays body e → is_data arrays locals e ≡ true
-is_data_of arrays body locals e are (inl written) = or_left (names_written arrays e) (list_any (has locals) (scalars_in e)) written
-is_data_of arrays body locals e are (inr local) = or_right (names_written arrays e) (list_any (has locals) (scalars_in e)) (local_any locals (scalars_in e) local.0 local.1 ((are local.0).1 local.2))
+is_data_of arrays body locals e are (inl written) = or_left (names_written arrays e) (list_any (is_among locals) (scalars_in e)) written
+is_data_of arrays body locals e are (inr local) = or_right (names_written arrays e) (list_any (is_among locals) (scalars_in e)) (local_any locals (scalars_in e) local.0 local.1 ((are local.0).1 local.2))
 
 -- the loops of a body that have a data expression as a bound
 pub body_lowers : (arrays : List Array) (body : List Stmt) (locals : List ℕ) (loops : List Loop) (old new : Option Line) → AreDataLocals arrays body locals → loops ≡ loops_in body

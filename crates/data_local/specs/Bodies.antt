@@ -11,10 +11,10 @@ use Rattle.data_local.specs.DataLocals.{AreDataLocals}
 abbrev pub body_numbered : List (List Stmt) → ℕ → List Stmt
 body_numbered bodies number = slice_index_or bodies number []
 
--- a set of names for each body: that exactly the data locals of the body are in its set
-pub record AreLocalsByBody (arrays : List Array) (bodies : List (List Stmt)) (sets : List (List ℕ)) : Type 0 where
-  pub as_many : length sets ≡ length bodies
-  pub each : (number : ℕ) → AreDataLocals arrays (body_numbered bodies number) (slice_index_or sets number [])
+-- a list of names for each body: that exactly the data locals of the body are in it
+pub record AreLocalsByBody (arrays : List Array) (bodies : List (List Stmt)) (lists : List (List ℕ)) : Type 0 where
+  pub as_many : length lists ≡ length bodies
+  pub each : (number : ℕ) → AreDataLocals arrays (body_numbered bodies number) (slice_index_or lists number [])
 
 -- the givings of each body that a statement of a region holds, and that statements of a region hold
 abbrev pub givings_in_item : Setting → Stmt → List (List Giving)

@@ -1,6 +1,6 @@
 -- The data locals of a body: the least set of names such that a name belongs to it where one of its givings depends on an
 -- expression that names a written array or a name of the set.
-use Rattle.std.specs.Prelude.{◌≡◌, ℕ, ◌*◌, true, ◌⊎◌, ◌↔◌, Bool, IsTrue, List, [], ◌∷◌}
+use Rattle.std.specs.Prelude.{◌≡◌, ℕ, true, ◌⊎◌, ◌↔◌, IsTrue, List, [], ◌∷◌}
 use Rattle.nest_syntax.specs.declared.tree.Expr.{Expr}
 use Rattle.nest_syntax.specs.declared.tree.Stmt.{Stmt}
 use Rattle.nest_syntax.specs.Arrays.{Array}
@@ -26,10 +26,6 @@ IsDataLocal arrays body name = IsGivenData arrays (givings body) name
 abbrev pub IsData : List Array → List Stmt → Expr → Type 0
 IsData arrays body e = (names_written arrays e ≡ true) ⊎ ((name : ℕ) × (is_among (scalars_in e) name ≡ true) × IsDataLocal arrays body name)
 
--- A set of names as the nodes of a graph, in which a name has twice its number: whether a name is in it.
-abbrev pub has : List ℕ → ℕ → Bool
-has nodes name = is_among nodes (2 * name)
-
--- that exactly the data locals of a body are in it
+-- that exactly the data locals of a body are in a list of names
 abbrev pub AreDataLocals : List Array → List Stmt → List ℕ → Type 0
-AreDataLocals arrays body locals = (name : ℕ) → IsTrue (has locals name) ↔ IsDataLocal arrays body name
+AreDataLocals arrays body locals = (name : ℕ) → IsTrue (is_among locals name) ↔ IsDataLocal arrays body name

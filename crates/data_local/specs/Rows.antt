@@ -8,7 +8,7 @@ use Rattle.nest_syntax.specs.Value.{names_written}
 use Rattle.graph_reach.specs.declared.Edge.{Edge}
 use Rattle.data_local.specs.declared.rows.Row.{Row}
 use Rattle.data_local.specs.declared.rows.Row.TheVariants as row
-use Rattle.data_local.specs.Names.{scalars_in}
+use Rattle.data_local.specs.Names.{scalars_in, is_among}
 use Rattle.data_local.specs.Givings.{Giving, Given, Tried, by_arms}
 
 -- the test with this number and those that it stands under; 0 is the number of none
@@ -70,3 +70,8 @@ start_of arrays to e = if names_written arrays e then to ∷ [] else []
 abbrev pub row_starts : List Array → Row → List ℕ
 row_starts arrays (row.Test number test under) = start_of arrays (node_of_test number) test.now
 row_starts arrays (row.Gives name value under) = start_of arrays (node_of_name name) value.now
+
+-- the name that a row gives, where its node is among these
+abbrev pub row_names : List ℕ → Row → List ℕ
+row_names nodes (row.Test number test under) = []
+row_names nodes (row.Gives name value under) = if is_among nodes (node_of_name name) then name ∷ [] else []

@@ -12,15 +12,15 @@ use std::alloc::Global;
 
 /// The data locals of each body of a program, in the order of the bodies' numbers.
 pub fn data_locals_by_body(alloc: Global, program: &Program) -> Result<Vec<DataLocals>, NoMemory>
-    ensures { IfOk result (λ sets. AreLocalsByBody (arrays_of program.now.decls) (bodies_of program.now) sets.items) }
+    ensures { IfOk result (λ lists. AreLocalsByBody (arrays_of program.now.decls) (bodies_of program.now) lists.items) }
 {
     let written = WrittenArrays::new(alloc, program.decls.as_slice())?;
     let bodies = giving_bodies(alloc, program)?;
-    let mut sets = Vec::new(alloc);
+    let mut lists = Vec::new(alloc);
     for body in &bodies {
-        sets.push(data_locals_of(alloc, &written, body)?)?;
+        lists.push(data_locals_of(alloc, &written, body)?)?;
     }
-    Ok(sets)
+    Ok(lists)
 }
 
 // The bodies of a program in textual order. An array statement, which gives no scalar a value, stands as an empty body.

@@ -1,11 +1,11 @@
-ghost use Rattle.std.specs.Prelude.{◌≡◌, ◌++◌, ◌<◌, ◌≤◌, ◌+◌, ◌*◌, ◌^◌, List, [], reverse, IfOk, OnOk};
+ghost use Rattle.std.specs.Prelude.{◌≡◌, ℕ, ◌++◌, ◌<◌, ◌≤◌, ◌+◌, ◌*◌, ◌^◌, List, [], reverse, IfOk, OnOk};
 ghost use Rattle.std.specs.List.{flat_map, list_any};
-ghost use Rattle.data_local.specs.Names.{scalars_in};
+ghost use Rattle.data_local.specs.Names.{scalars_in, is_among};
 ghost use Rattle.nest_syntax.specs.Arrays.{Array, arrays_of};
 ghost use Rattle.data_local.specs.Givings.{givings};
-ghost use Rattle.data_local.specs.DataLocals.{AreDataLocals, has};
+ghost use Rattle.data_local.specs.DataLocals.{AreDataLocals};
 ghost use Rattle.data_local.specs.Written.{TellsWritten};
-ghost use Rattle.data_local.specs.Rows.{told, IsBuilt, row_edges, row_starts, edges_to, start_of};
+ghost use Rattle.data_local.specs.Rows.{told, IsBuilt, row_edges, row_starts, row_names, edges_to, start_of};
 
 use crate::names::{draw_edges, node_of_name};
 use crate::rows::{Row, keep_block};
@@ -15,31 +15,43 @@ use nest_syntax::{Decl, Expr, NoMemory, Stmt};
 use std::alloc::Global;
 use std::marker::Model;
 
-/// The data locals of a body.
+/// The data locals of a body, as a list of names that rise.
 #[derive(Debug, Drop)]
 pub struct DataLocals {
-    nodes: Nodes,
+    names: Vec<u32>,
 }
 
 impl Model for DataLocals {
     ghost use Rattle.std.specs.Prelude.{ℕ, List};
+    ghost use Rattle.std.specs.List.Sorted.{IsStrictlyIncreasing};
 
     ghost Value = { List ℕ };
 
-    ghost view = { λ d. d.nodes };
+    ghost view = { λ d. d.names.items };
+
+    ghost invariant = { λ d. IsStrictlyIncreasing d.names.items };
 }
 
 impl DataLocals {
+    // Names in any order, each as often as it comes.
+    fn of(mut names: Vec<u32>) -> DataLocals
+        ensures { (name : ℕ) → is_among result name ≡ is_among names.items name }
+    {
+        names.sort_unstable();
+        names.dedup();
+        DataLocals { names }
+    }
+
     /// Whether a name is a data local of the body.
     pub fn has(&self, name: u32) -> bool
-        ensures { result ≡ has self.now name }
+        ensures { result ≡ is_among self.now name }
     {
-        self.nodes.has(node_of_name(name))
+        self.names.as_slice().binary_search(&name).is_ok()
     }
 
     /// Whether an expression names a data local of the body.
     pub fn are_named_in(&self, expr: &Expr) -> bool
-        ensures { result ≡ list_any (has self.now) (scalars_in expr.now) }
+        ensures { result ≡ list_any (is_among self.now) (scalars_in expr.now) }
     {
         match expr {
             Expr::Number(_) => false,
@@ -77,7 +89,8 @@ pub(crate) fn data_locals_of(
     let rows = rows_of(alloc, body)?;
     let mut graph = graph_of(alloc, &rows, written)?;
     let nodes = reached(alloc, &graph.starts, &mut graph.edges)?;
-    Ok(DataLocals { nodes })
+    let names = reached_names(alloc, &rows, &nodes)?;
+    Ok(DataLocals::of(names))
 }
 
 fn rows_of<'a>(alloc: Global, body: &'a [Stmt]) -> Result<Vec<Row<'a>>, NoMemory>
@@ -87,6 +100,31 @@ fn rows_of<'a>(alloc: Global, body: &'a [Stmt]) -> Result<Vec<Row<'a>>, NoMemory
     let mut rows = Vec::new(alloc);
     keep_block(body, 0, &mut rows)?;
     Ok(rows)
+}
+
+// The names that are given in rows and reached, each as often as it is given.
+fn reached_names(alloc: Global, rows: &[Row], nodes: &Nodes) -> Result<Vec<u32>, NoMemory>
+    ensures { IfOk result (λ names. names.items ≡ flat_map (row_names nodes.now) rows.now) }
+{
+    let mut names = Vec::new(alloc);
+    for row in rows {
+        add_reached(*row, nodes, &mut names)?;
+    }
+    Ok(names)
+}
+
+fn add_reached(row: Row, nodes: &Nodes, names: &mut Vec<u32>) -> Result<(), NoMemory>
+    ensures { OnOk result (names.new.items ≡ names.old.items ++ row_names nodes.now row.entry) }
+{
+    match row {
+        Row::Test { .. } => {}
+        Row::Gives { name, .. } => {
+            if nodes.has(node_of_name(name)) {
+                names.push(name)?;
+            }
+        }
+    }
+    Ok(())
 }
 
 // The graph in which the data locals are reached: an edge leads to each giving and each test from the scalars in its

@@ -18,4 +18,4 @@ returns c =
     let all : map (λ x. givings x.now) (take c.loop-body.body-index c.deref-body-items.result.now) ≡ map givings (bodies_of c.args.program.now) =
     ap (map (λ x. givings x.now)) (take_all _ _ c.loop-body-test.false ∙ c.deref-body-items.ensures.value) ∙ c.in_ok-bodies.ensures in
     all_kept (arrays_of c.args.program.now.decls) (bodies_of c.args.program.now) _
-    (subst (λ (gs : List (List Giving)). Kept (arrays_of c.args.program.now.decls) gs c.loop-body.sets.items) all c.loop-body.invariant)
+    (subst (λ (gs : List (List Giving)). Kept (arrays_of c.args.program.now.decls) gs c.loop-body.lists.items) all c.loop-body.invariant)
