@@ -25,6 +25,17 @@ for (long t = 0; t < 2; t++) {
 }
 ";
 
+/// The same nest with other opening words.
+const MIRRORED_ON_WORDS: &[u8] = b"long a[4];
+for (long t = 0; t < 2; t++) {
+  for (long i = 0; i < 4; i++) {
+    a[i] = a[3 - i] + t * 10 + i;
+  }
+}
+data
+a 1 2 3 4
+";
+
 /// Its first and its last iteration write beyond the array.
 const BEYOND: &[u8] = b"long a[2];
 for (long t = 0; t < 1; t++) {
@@ -194,6 +205,17 @@ fn the_words_are_those_of_textual_order(rt: HostRuntime) -> Result<(), Fail> {
             "{workers} workers"
         );
     }
+    Ok(())
+}
+
+// The words behind each turn, found by hand: 4 4 6 7, and then 17 17 29 30.
+#[test]
+fn a_run_starts_at_the_words_of_the_data_lines(rt: HostRuntime) -> Result<(), Fail> {
+    let mut machine = open(&rt, rt.alloc(), MIRRORED_ON_WORDS, 2, 16)?;
+    has_words(&rt, &machine, &[1, 2, 3, 4]);
+    let mut history = Vec::new(rt.alloc());
+    lone_run(&mut machine, &[], &mut history)?;
+    has_words(&rt, &machine, &[17, 17, 29, 30]);
     Ok(())
 }
 
