@@ -1,49 +1,75 @@
--- Scalars that are saved and put back.
-use Rattle.std.proofs.Common.{◌≡◌, ◌≢◌, ℕ, suc, ◌+◌, ◌<◌, ◌≤◌, ◌==◌, ◌||◌, ℤ, pos, true, false, List, [], ◌∷◌, ◌++◌, map, length, drop, get_or, refl, sym, ap, ◌∙◌, subst, arith, drop-cons, add-one, append_assoc}
-use Rattle.std.proofs.lemmas.List.{drop_all, get_or-set_same, get_or-set_other, length-set, ext_get_or, append-nil, map-append}
+-- Scalars that are put aside and put back.
+use Rattle.std.proofs.Common.{◌≡◌, ◌≢◌, ℕ, suc, ◌+◌, ◌<◌, ◌≤◌, ◌==◌, ◌||◌, ℤ, pos, Bool, true, false, List, [], ◌∷◌, ◌++◌, map, length, drop, get_or, refl, sym, ap, ◌∙◌, subst, arith, drop-cons, add-one}
+use Rattle.std.specs.List.{concat}
+use Rattle.std.proofs.lemmas.List.{drop_all, get_or-set_same, get_or-set_other, length-set, ext_get_or}
 use Rattle.std.proofs.lemmas.Bool.Decides.{eqb_tells}
 use Rattle.std.proofs.Common.{◌⊎◌, inl, inr}
+use Rattle.nest_syntax.specs.declared.tree.Decl.{Decl}
+use Rattle.nest_syntax.specs.declared.tree.Decl.TheVariants as decl
+use Rattle.nest_syntax.specs.Course.{declared_scalars}
 use Rattle.nest_syntax.specs.Value.{scalar_at, with_scalar}
-use Rattle.nest_mean.specs.NamesChanged.{joined, is_among, KeepsOthers}
-use Rattle.nest_mean.specs.Saved.{saved, put_back}
+use Rattle.nest_mean.specs.NamesChanged.{is_among, KeepsOthers}
+use Rattle.nest_mean.specs.Saved.{taken_over, AreSaved}
 
-pub saves_more : {A : Type 0} (scalars : List ℤ) (f : A → List ℕ) (xs : List A) (i : ℕ) → i < length xs → (here : A) → here ≡ get_or xs i here → (kept kept' whole : List (ℕ × ℤ))
-    → kept ++ saved scalars (joined (map f (drop i xs))) ≡ whole → kept' ≡ kept ++ saved scalars (f here) → kept' ++ saved scalars (joined (map f (drop (i + 1) xs))) ≡ whole
-saves_more {A} scalars f xs i there here is kept kept' whole left more =
+pub taken-append : (xs ys : List ℕ) (source target : List ℤ) → taken_over (xs ++ ys) source target ≡ taken_over ys source (taken_over xs source target)
+taken-append [] ys source target = refl
+taken-append (x ∷ xs) ys source target = taken-append xs ys source (with_scalar target x (scalar_at source x))
+
+-- of the parts at place i and behind it, the one at i is taken over
+pub takes_more : {A : Type 0} (source : List ℤ) (f : A → List ℕ) (xs : List A) (i : ℕ) → i < length xs → (here : A) → here ≡ get_or xs i here → (target target' whole : List ℤ)
+    → taken_over (concat (map f (drop i xs))) source target ≡ whole → target' ≡ taken_over (f here) source target → taken_over (concat (map f (drop (i + 1) xs))) source target' ≡ whole
+takes_more source f xs i there here is target target' whole left more =
     let rest : drop i xs ≡ here ∷ drop (i + 1) xs = drop-cons xs i here there ∙ ap (λ x. x ∷ drop (suc i) xs) (sym is) ∙ ap (λ k. here ∷ drop k xs) (sym (add-one i)) in
-    ap (λ k. k ++ saved scalars (joined (map f (drop (i + 1) xs)))) more
-    ∙ append_assoc kept (saved scalars (f here)) (saved scalars (joined (map f (drop (i + 1) xs))))
-    ∙ ap (λ more. kept ++ more) (sym (map-append (λ name. (name, scalar_at scalars name)) (f here) (joined (map f (drop (i + 1) xs)))))
-    ∙ ap (λ ys. kept ++ saved scalars (joined (map f ys))) (sym rest)
-    ∙ left
+    ap (taken_over (concat (map f (drop (i + 1) xs))) source) more ∙ sym (taken-append (f here) (concat (map f (drop (i + 1) xs))) source target)
+    ∙ ap (λ ys. taken_over (concat (map f ys)) source target) (sym rest) ∙ left
 
-pub saves_end : {A : Type 0} (scalars : List ℤ) (f : A → List ℕ) (xs : List A) (i : ℕ) → length xs ≤ i → (kept whole : List (ℕ × ℤ)) → kept ++ saved scalars (joined (map f (drop i xs))) ≡ whole → kept ≡ whole
-saves_end scalars f xs i over kept whole left = sym (append-nil kept) ∙ ap (λ ys. kept ++ saved scalars (joined (map f ys))) (sym (drop_all i xs over)) ∙ left
+pub takes_all : {A : Type 0} (source : List ℤ) (f : A → List ℕ) (xs : List A) (i : ℕ) → length xs ≤ i → (target whole : List ℤ) → taken_over (concat (map f (drop i xs))) source target ≡ whole → target ≡ whole
+takes_all source f xs i over target whole left = ap (λ ys. taken_over (concat (map f ys)) source target) (sym (drop_all i xs over)) ∙ left
 
-pub puts_more : (kept : List (ℕ × ℤ)) (i : ℕ) → i < length kept → (none : ℕ × ℤ) (name : ℕ) (value : ℤ) → get_or kept i none ≡ (name, value) → (scalars scalars' whole : List ℤ) → put_back (drop i kept) scalars ≡ whole
-    → scalars' ≡ with_scalar scalars name value → put_back (drop (i + 1) kept) scalars' ≡ whole
-puts_more kept i there none name value is scalars scalars' whole left after =
-    let rest : drop i kept ≡ (name, value) ∷ drop (i + 1) kept = drop-cons kept i none there ∙ ap (λ x. x ∷ drop (suc i) kept) is ∙ ap (λ k. (name, value) ∷ drop k kept) (sym (add-one i)) in
-    ap (put_back (drop (i + 1) kept)) after ∙ ap (λ ks. put_back ks scalars) (sym rest) ∙ left
+pub length-taken : (names : List ℕ) (source target : List ℤ) → length (taken_over names source target) ≡ length target
+length-taken [] source target = refl
+length-taken (first ∷ names) source target = length-taken names source (with_scalar target first (scalar_at source first)) ∙ length-set target first (scalar_at source first)
 
-pub puts_end : (kept : List (ℕ × ℤ)) (i : ℕ) → length kept ≤ i → (scalars whole : List ℤ) → put_back (drop i kept) scalars ≡ whole → scalars ≡ whole
-puts_end kept i over scalars whole left = ap (λ ks. put_back ks scalars) (sym (drop_all i kept over)) ∙ left
+-- a name that isn't among them keeps its scalar, and one that is takes that of the source
+taken_at : (names : List ℕ) (source target : List ℤ) (name : ℕ) (value : ℤ) → name < length target → (is_among names name ≡ false → scalar_at target name ≡ value) → (is_among names name ≡ true → scalar_at source name ≡ value)
+    → scalar_at (taken_over names source target) name ≡ value
+taken_at [] source target name value there apart among = apart refl
+taken_at (first ∷ names) source target name value there apart among = taken_at names source next name value inside (out (eqb_tells first name)) (within (eqb_tells first name))
+  where
+    next : List ℤ
+    next = with_scalar target first (scalar_at source first)
+
+    inside : name < length next
+    inside = subst (λ n. name < n) (sym (length-set target first (scalar_at source first))) there
+
+    out : (((first == name) ≡ true) × (first ≡ name)) ⊎ (((first == name) ≡ false) × (first ≢ name)) → is_among names name ≡ false → scalar_at next name ≡ value
+    out (inl e) apart' =
+        let there' : first < length target = omega (arith, e.1, there) in
+        ap (scalar_at next) (sym e.1) ∙ get_or-set_same target first (scalar_at source first) (pos 0) there' ∙ ap (scalar_at source) e.1 ∙ among (ap (λ b. b || is_among names name) e.0)
+    out (inr e) apart' = get_or-set_other target first name (scalar_at source first) (pos 0) (λ same. e.1 (sym same)) ∙ apart (ap (λ b. b || is_among names name) e.0 ∙ apart')
+
+    within : (((first == name) ≡ true) × (first ≡ name)) ⊎ (((first == name) ≡ false) × (first ≢ name)) → is_among names name ≡ true → scalar_at source name ≡ value
+    within (inl e) among' = among (ap (λ b. b || is_among names name) e.0)
+    within (inr e) among' = among (ap (λ b. b || is_among names name) e.0 ∙ among')
+
+not_both : {A : Type 0} (b : Bool) → b ≡ true → b ≡ false → A
+not_both b is isn = absurd (cc)
+
+-- scalars that were taken over are saved
+pub saves : (names : List ℕ) (scalars saved : List ℤ) → length saved ≡ length scalars → AreSaved names scalars (taken_over names scalars saved)
+saves names scalars saved many = record {
+  many = length-taken names scalars saved ∙ many;
+  each = λ name there among. taken_at names scalars saved name (scalar_at scalars name) (subst (λ n. name < n) (length-taken names scalars saved) there) (λ apart. not_both (is_among names name) among apart) (λ _. refl);
+}
 
 -- what was saved is put back: the scalars are what they were
-put_back_among : (names : List ℕ) (before after : List ℤ) → length after ≡ length before → ((name : ℕ) → name < length after → is_among names name ≡ false → scalar_at after name ≡ scalar_at before name)
-    → put_back (saved before names) after ≡ before
-put_back_among [] before after many same = ext_get_or (pos 0) after before many (λ name there. same name there refl)
-put_back_among (first ∷ names) before after many same =
-    put_back_among names before (with_scalar after first (scalar_at before first)) (length-set after first (scalar_at before first) ∙ many) (λ name there apart. by_name name (subst (λ n. name < n) (length-set after first (scalar_at before first)) there) apart (eqb_tells first name))
-  where
-    by_name : (name : ℕ) → name < length after → is_among names name ≡ false → (((first == name) ≡ true) × (first ≡ name)) ⊎ (((first == name) ≡ false) × (first ≢ name))
-        → scalar_at (with_scalar after first (scalar_at before first)) name ≡ scalar_at before name
-    by_name name there apart (inl e) =
-        let there' : first < length after = omega (arith, e.1) in
-        ap (scalar_at (with_scalar after first (scalar_at before first))) (sym e.1) ∙ get_or-set_same after first (scalar_at before first) (pos 0) there' ∙ ap (scalar_at before) e.1
-    by_name name there apart (inr e) =
-        get_or-set_other after first name (scalar_at before first) (pos 0) (λ same_name. e.1 (sym same_name))
-        ∙ same name there (ap (λ b. b || is_among names name) e.0 ∙ apart)
+pub put_back_saved : (names : List ℕ) (before after saved : List ℤ) → KeepsOthers names before after → AreSaved names before saved → taken_over names saved after ≡ before
+put_back_saved names before after saved kept are_saved = ext_get_or (pos 0) (taken_over names saved after) before (length-taken names saved after ∙ kept.many) (λ name there.
+    let inside : name < length after = subst (λ n. name < n) (length-taken names saved after) there in
+    let in_saved : name < length saved = subst (λ n. name < n) (kept.many ∙ sym are_saved.many) inside in
+    taken_at names saved after name (scalar_at before name) inside (λ apart. kept.others name apart) (λ among. are_saved.each name in_saved among))
 
-pub put_back_saved : (names : List ℕ) (before after : List ℤ) → KeepsOthers names before after → put_back (saved before names) after ≡ before
-put_back_saved names before after kept = put_back_among names before after kept.many (λ name there apart. kept.others name apart)
+pub length-declared : (decls : List Decl) (scalars : List ℤ) → length (declared_scalars decls scalars) ≡ length scalars
+length-declared [] scalars = refl
+length-declared (decl.Array line name size fixed ∷ decls) scalars = length-declared decls scalars
+length-declared (decl.Scalar line name value ∷ decls) scalars = length-declared decls (with_scalar scalars name value) ∙ length-set scalars name value

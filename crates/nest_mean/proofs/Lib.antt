@@ -7,4 +7,4 @@ pub mod Rounds
 pub mod Walk
 pub mod Sameness
 pub mod Whole
-pub mod Tally
+pub mod Numbers

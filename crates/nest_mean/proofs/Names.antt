@@ -13,7 +13,8 @@ use Rattle.nest_syntax.specs.declared.tree.Stmt.TheFolds.{fold-roll-Stmt, fold_o
 use Rattle.nest_syntax.specs.declared.tree.Stmt.TheVariants as stmt
 use Rattle.nest_syntax.specs.declared.tree.Stmt.TheVariants.{rolls-Declare, rolls-Assign, rolls-Write, rolls-If, rolls-Loop}
 use Rattle.nest_syntax.specs.Value.{with_scalar}
-use Rattle.nest_mean.specs.NamesChanged.{joined, changed, changed_node, changed_arm_node, changed_loop_node, changed_in_arm, changed_in_loop, is_among, KeepsOthers}
+use Rattle.std.specs.List.{concat}
+use Rattle.nest_mean.specs.NamesChanged.{changed, changed_node, changed_arm_node, changed_loop_node, changed_in_arm, changed_in_loop, is_among, KeepsOthers}
 
 or_false_left : (a b : Bool) → (a || b) ≡ false → a ≡ false
 or_false_left false b e = refl
@@ -36,10 +37,10 @@ pub among_behind : (first : ℕ) (names : List ℕ) (name : ℕ) → is_among (f
 among_behind first names name e = or_false_right (first == name) (is_among names name) e
 
 -- the names of a part are among those of the whole
-pub among_part : {A : Type 0} (f : A → List ℕ) (xs : List A) (i : ℕ) (none : A) → i < length xs → (name : ℕ) → is_among (joined (map f xs)) name ≡ false → is_among (f (get_or xs i none)) name ≡ false
+pub among_part : {A : Type 0} (f : A → List ℕ) (xs : List A) (i : ℕ) (none : A) → i < length xs → (name : ℕ) → is_among (concat (map f xs)) name ≡ false → is_among (f (get_or xs i none)) name ≡ false
 among_part f [] i none h name e = absurd (omega arith)
-among_part f (x ∷ xs) zero none h name e = among_left (f x) (joined (map f xs)) name e
-among_part f (x ∷ xs) (suc i) none h name e = among_part f xs i none (omega arith) name (among_right (f x) (joined (map f xs)) name e)
+among_part f (x ∷ xs) zero none h name e = among_left (f x) (concat (map f xs)) name e
+among_part f (x ∷ xs) (suc i) none h name e = among_part f xs i none (omega arith) name (among_right (f x) (concat (map f xs)) name e)
 
 pub keeps_same : (names : List ℕ) (scalars : List ℤ) → KeepsOthers names scalars scalars
 keeps_same names scalars = record { many = refl; others = λ name apart. refl }
@@ -67,14 +68,14 @@ changed-assign line name op e = ap changed (sym (rolls-Assign line name op e)) �
 pub changed-write : (line : Line) (name : ℕ) (place : Expr) (op : Op) (e : Expr) → changed (stmt.Write line name place op e) ≡ []
 changed-write line name place op e = ap changed (sym (rolls-Write line name place op e)) ∙ fold-roll-Stmt (List ℕ) (List ℕ) (List ℕ) changed_node changed_arm_node changed_loop_node (Stmt-F.Write line name place op e)
 
-pub changed-if : (arms : List Arm) (other : List Stmt) → changed (stmt.If arms other) ≡ joined (map changed_in_arm arms) ++ joined (map changed other)
+pub changed-if : (arms : List Arm) (other : List Stmt) → changed (stmt.If arms other) ≡ concat (map changed_in_arm arms) ++ concat (map changed other)
 changed-if arms other = ap changed (sym (rolls-If arms other)) ∙ fold-roll-Stmt (List ℕ) (List ℕ) (List ℕ) changed_node changed_arm_node changed_loop_node (Stmt-F.If arms other)
 
 pub changed-loop : (l : Loop) → changed (stmt.Loop l) ≡ changed_in_loop l
 changed-loop l = ap changed (sym (rolls-Loop l)) ∙ fold-roll-Stmt (List ℕ) (List ℕ) (List ℕ) changed_node changed_arm_node changed_loop_node (Stmt-F.Loop l)
 
-pub changed_in_arm-is : (arm : Arm) → changed_in_arm arm ≡ joined (map changed arm.body)
+pub changed_in_arm-is : (arm : Arm) → changed_in_arm arm ≡ concat (map changed arm.body)
 changed_in_arm-is arm = fold_out-Arm (List ℕ) (List ℕ) (List ℕ) changed_node changed_arm_node changed_loop_node arm
 
-pub changed_in_loop-is : (l : Loop) → changed_in_loop l ≡ l.name ∷ joined (map changed l.body)
+pub changed_in_loop-is : (l : Loop) → changed_in_loop l ≡ l.name ∷ concat (map changed l.body)
 changed_in_loop-is l = fold_out-Loop (List ℕ) (List ℕ) (List ℕ) changed_node changed_arm_node changed_loop_node l

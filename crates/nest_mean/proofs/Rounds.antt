@@ -4,43 +4,36 @@ use Rattle.std.specs.List.{list_any}
 use Rattle.std.proofs.Math.Nat.{mul-le-mul_left}
 use Rattle.nest_syntax.specs.declared.names.Line.{Line}
 use Rattle.nest_syntax.specs.declared.operators.Cause.{Cause}
+use Rattle.nest_syntax.specs.declared.operators.Op.{Op}
 use Rattle.nest_syntax.specs.declared.tree.Expr.{Expr}
 use Rattle.nest_syntax.specs.declared.tree.Loop.{Loop}
 use Rattle.nest_syntax.specs.declared.tree.Stmt.{Stmt}
-use Rattle.nest_syntax.specs.Words.{variable}
+use Rattle.nest_syntax.specs.Words.{operation_of, assigned, variable}
 use Rattle.nest_syntax.specs.Arrays.{Array, sizes_of}
-use Rattle.nest_syntax.specs.Value.{names_written, with_scalar}
+use Rattle.nest_syntax.specs.Value.{value, and_then, names_written, scalar_at, with_scalar}
 use Rattle.nest_syntax.specs.Turn.{Turn, turn_of}
 use Rattle.nest_syntax.specs.Reads.{on_words}
 use Rattle.nest_syntax.specs.Course.{Setting, Course, Purpose, Iterate, Item, computed, event, iterations, region_turns}
 use Rattle.nest_syntax.specs.Outcome.{Ending, body_at, turn_in, behind, ending_from}
 use Rattle.word_store.specs.Memory.{Memory}
 use Rattle.nest_mean.specs.declared.bodies.TurnTrap.{TurnTrap}
-use Rattle.nest_mean.specs.declared.stops.Stop.{Stop}
-use Rattle.nest_mean.specs.declared.stops.Stop.TheVariants as stop
+use Rattle.nest_syntax.specs.declared.place.Place.{Place}
 use Rattle.nest_mean.specs.NamesChanged.{names_changed, changed_in_loop, KeepsOthers}
 use Rattle.nest_mean.specs.TurnRun.{ended}
-use Rattle.nest_mean.specs.CourseParts.{event_words, at_iteration, next_number, Stand, Reaches, Passes, Iterates, IteratesAll, PassesTurns}
-use Rattle.nest_mean.specs.Saved.{saved, put_back}
+use Rattle.nest_mean.specs.CourseParts.{event_words, scalars_changed, at_iteration, next_number, Stand, Reaches, Passes, Iterates, IteratesAll, PassesTurns}
+use Rattle.nest_mean.specs.Saved.{taken_over, AreSaved}
 use Rattle.nest_mean.proofs.Names.{among_here, among_behind, keeps_then, keeps_more, keeps_set, changed_in_loop-is}
 use Rattle.nest_mean.proofs.Kept.{put_back_saved}
 
 -- a run that went another way before and came to the same
-pub reaches_from : {A : Type 0} (result : Result A Stop) (next : A → Ending) (before after : Ending) → before ≡ after → Reaches result next after → Reaches result next before
+pub reaches_from : {A : Type 0} (result : Result A Place) (next : A → Ending) (before after : Ending) → before ≡ after → Reaches result next after → Reaches result next before
 reaches_from (Ok r) next before after same reached = same ∙ reached
-reaches_from (Err (stop.Trapped place)) next before after same reached = same ∙ reached
-reaches_from (Err stop.NoMemory) next before after same reached = tt
+reaches_from (Err place) next before after same reached = same ∙ reached
 
 -- a run that goes on otherwise to the same
-pub reaches_to : {A : Type 0} (result : Result A Stop) (next next' : A → Ending) (ending : Ending) → ((r : A) → next r ≡ next' r) → Reaches result next ending → Reaches result next' ending
+pub reaches_to : {A : Type 0} (result : Result A Place) (next next' : A → Ending) (ending : Ending) → ((r : A) → next r ≡ next' r) → Reaches result next ending → Reaches result next' ending
 reaches_to (Ok r) next next' ending same reached = reached ∙ same r
-reaches_to (Err (stop.Trapped place)) next next' ending same reached = reached
-reaches_to (Err stop.NoMemory) next next' ending same reached = tt
-
--- an event that stopped: nothing is asked of what follows
-pub reaches_stop : {A B : Type 0} (stopped : Stop) (next : A → Ending) (next' : B → Ending) (ending : Ending) → Reaches (Err stopped) next ending → Reaches (Err stopped) next' ending
-reaches_stop (stop.Trapped place) next next' ending reached = reached
-reaches_stop stop.NoMemory next next' ending reached = tt
+reaches_to (Err place) next next' ending same reached = reached
 
 -- an event is evaluated on its words
 pub event_is : {A : Type 0} (setting : Setting) (purpose : Purpose) (line : Line) (exprs : List Expr) (compute : List ℤ → Result A Cause) (go : A → Course)
@@ -53,9 +46,17 @@ event_is {A} setting purpose line exprs compute go sizes turn k words = by_kind 
     by_kind true = refl
     by_kind false = refl
 
+-- an assignment among the items, once its right side is known
+module _ (arrays : List Array) (name : ℕ) (o : Op) (e : Expr) (s words : List ℤ) (right : ℤ) (is : Ok right ≡ value arrays s words e) where
+  pub change_traps : (cause : Cause) → Err cause ≡ assigned (operation_of o) (scalar_at s name) right → Err cause ≡ scalars_changed arrays name o e s words
+  change_traps cause traps = ap (λ v. and_then v (λ new. Ok (with_scalar s name new))) traps ∙ ap (λ v. and_then v (λ r. and_then (assigned (operation_of o) (scalar_at s name) r) (λ new. Ok (with_scalar s name new)))) is
+
+  pub change_made : (new : ℤ) (s' : List ℤ) → Ok new ≡ assigned (operation_of o) (scalar_at s name) right → s' ≡ with_scalar s name new → Ok s' ≡ scalars_changed arrays name o e s words
+  change_made new s' becomes after = ap Ok after ∙ ap (λ v. and_then v (λ n. Ok (with_scalar s name n))) becomes ∙ ap (λ v. and_then v (λ r. and_then (assigned (operation_of o) (scalar_at s name) r) (λ n. Ok (with_scalar s name n)))) is
+
 module _ (arrays : List Array) where
   -- one iteration, from the turn that was carried out
-  pub iterates : (body : List Stmt) (names : List ℕ) (turned : Result (Unit {0}) TurnTrap) (result : Result (Unit {0}) Stop) (s : List ℤ) (n : ℕ) (m : Memory) (s' : List ℤ) (n' : ℕ) (m' : Memory)
+  pub iterates : (body : List Stmt) (names : List ℕ) (turned : Result (Unit {0}) TurnTrap) (result : Result (Unit {0}) Place) (s : List ℤ) (n : ℕ) (m : Memory) (s' : List ℤ) (n' : ℕ) (m' : Memory)
       → on_words (sizes_of arrays) (turn_of arrays body s) m.words ≡ ended turned m'.words → m'.sizes ≡ m.sizes → KeepsOthers names s s' → result ≡ at_iteration n turned → n' ≡ next_number n turned
       → Iterates arrays body names result s n m s' n' m'
   iterates body names turned result s n m s' n' m' turn sizes kept answer count = record {
@@ -111,9 +112,9 @@ module _ (arrays : List Array) where
           ∙ ap (λ t. ending_with bodies (Iterate at t (iterations (count - (k + 1)) (suc k) at scalars_in rest)) n m) begin
           ∙ ap (λ j. ending_with bodies (Iterate at start (iterations (count - (k + 1)) j at scalars_in rest)) n m) (sym (add-one k))
 
-      pub iteration_runs : (s'' : List ℤ) → Iterates arrays invoked.body (names_changed invoked.body) (Ok tt) start n m s' n' m' → s'' ≡ put_back (saved s₀ (changed_in_loop invoked)) s' → IsIterated (k + 1) s'' n' m'
-      iteration_runs s'' ran back = record {
-        scalars = back ∙ put_back_saved (changed_in_loop invoked) s₀ s' all_kept;
+      pub iteration_runs : (saved s'' : List ℤ) → AreSaved (changed_in_loop invoked) s₀ saved → Iterates arrays invoked.body (names_changed invoked.body) (Ok tt) start n m s' n' m' → s'' ≡ taken_over (changed_in_loop invoked) saved s' → IsIterated (k + 1) s'' n' m'
+      iteration_runs saved s'' are_saved ran back = record {
+        scalars = back ∙ put_back_saved (changed_in_loop invoked) s₀ s' saved all_kept are_saved;
         same = λ bodies at is rest. round bodies at is rest ∙ ran.same bodies at is (iterations (count - (k + 1)) (k + 1) at scalars_in rest);
         sizes = ran.sizes ∙ iterated.sizes;
         few = omega (arith, ran.few, iterated.few);
@@ -126,11 +127,9 @@ module _ (arrays : List Array) where
               (keeps_set (invoked.name ∷ names_changed invoked.body) s₀ invoked.name (variable low invoked.step k) (among_here invoked.name (names_changed invoked.body))))
               (keeps_more (names_changed invoked.body) (invoked.name ∷ names_changed invoked.body) start s' (among_behind invoked.name (names_changed invoked.body)) ran.kept))
 
-      pub iteration_stops : (stopped : Stop) → Iterates arrays invoked.body (names_changed invoked.body) (Err stopped) start n m s' n' m' → IteratesAll arrays invoked low count (Err stopped) s₀ n₀ m₀ s' n' m'
+      pub iteration_stops : (stopped : Place) → Iterates arrays invoked.body (names_changed invoked.body) (Err stopped) start n m s' n' m' → IteratesAll arrays invoked low count (Err stopped) s₀ n₀ m₀ s' n' m'
       iteration_stops stopped ran = record {
-        same = λ bodies at is go.
-            reaches_stop stopped (λ (_ : Unit {0}). ending_with bodies (iterations (count - (k + 1)) (k + 1) at scalars_in (go s₀)) n' m') _ _
-            (reaches_from (Err stopped) _ _ _ (round bodies at is (go s₀)) (ran.same bodies at is (iterations (count - (k + 1)) (k + 1) at scalars_in (go s₀))));
+        same = λ bodies at is go. round bodies at is (go s₀) ∙ ran.same bodies at is (iterations (count - (k + 1)) (k + 1) at scalars_in (go s₀));
         sizes = ran.sizes ∙ iterated.sizes;
         few = omega (arith, ran.few, iterated.few);
       }
@@ -143,10 +142,6 @@ module _ (arrays : List Array) where
       sizes = iterated.sizes;
       few = omega (arith, iterated.few);
     }
-
-  -- nothing was carried out: memory was lacking
-  pub no_iterations : (invoked : Loop) (low : ℤ) (count : ℕ) (s : List ℤ) (n : ℕ) (m : Memory) → IteratesAll arrays invoked low count (Err stop.NoMemory) s n m s n m
-  no_iterations invoked low count s n m = record { same = λ bodies at is go. tt; sizes = refl; few = omega arith }
 
   -- the turns of a region, n from turn k on
   module _ (items : Item) (region : Loop) (low : ℤ) (count : ℕ) (s₀ : List ℤ) (n₀ : ℕ) (m₀ : Memory) where
@@ -184,11 +179,9 @@ module _ (arrays : List Array) where
         few = omega (arith, passed.few, turned.few);
       }
 
-      pub turn_ends : (stopped : Stop) → Passes arrays items 16777216 (Err stopped) start n m s' n' m' → PassesTurns arrays items region low count (Err stopped) s₀ n₀ m₀ s' n' m'
+      pub turn_ends : (stopped : Place) → Passes arrays items 16777216 (Err stopped) start n m s' n' m' → PassesTurns arrays items region low count (Err stopped) s₀ n₀ m₀ s' n' m'
       turn_ends stopped passed = record {
-        same = λ bodies first stands go.
-            reaches_stop stopped (λ (_ : Unit {0}). ending_of bodies (turns_left (count - (k + 1)) (k + 1) first s' go) n' m') _ _
-            (reaches_from (Err stopped) _ _ _ (turn bodies first stands go) (passed.same bodies first stands (λ after. turns_left (count - (k + 1)) (k + 1) first after go)));
+        same = λ bodies first stands go. turn bodies first stands go ∙ passed.same bodies first stands (λ after. turns_left (count - (k + 1)) (k + 1) first after go);
         sizes = passed.sizes ∙ turned.sizes;
         few = let next : k + 1 ≤ count = omega arith in omega (arith, passed.few, turned.few, mul-le-mul_left (16777216 * length items.bodies) next);
       }

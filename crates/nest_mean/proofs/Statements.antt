@@ -17,7 +17,8 @@ use Rattle.nest_syntax.specs.Reads.{on_words}
 use Rattle.nest_syntax.proofs.Equations.{arm_effect, arm_effect-is, loop_effect-is, effect-write, effect-if}
 use Rattle.word_store.specs.Memory.{Memory}
 use Rattle.nest_mean.specs.declared.bodies.TurnTrap.{TurnTrap}
-use Rattle.nest_mean.specs.NamesChanged.{joined, changed, changed_in_arm, changed_in_loop, names_changed, is_among, KeepsOthers}
+use Rattle.std.specs.List.{concat}
+use Rattle.nest_mean.specs.NamesChanged.{changed, changed_in_arm, changed_in_loop, names_changed, is_among, KeepsOthers}
 use Rattle.nest_mean.specs.TurnParts.{went_on_with, at_line, Runs, RunsArms}
 use Rattle.nest_mean.proofs.Names.{among_left, among_right, among_part, keeps_same, keeps_then, keeps_more, changed-if, changed_in_arm-is}
 use Rattle.nest_mean.proofs.Parts.{reckoned_at, runs_stops}
@@ -53,7 +54,7 @@ module _ (arrays : List Array) where
       unfolding tested
       test_is other s m go result is = ap (λ t. on_words (sizes_of arrays) t m.words) (arm_at other s go) ∙ reckoned_at arrays s m.words here.test here.line result is _
 
-      here_names : (name : ℕ) → is_among (joined (map changed_in_arm arms)) name ≡ false → is_among (names_changed here.body) name ≡ false
+      here_names : (name : ℕ) → is_among (concat (map changed_in_arm arms)) name ≡ false → is_among (names_changed here.body) name ≡ false
       here_names name apart = ap (λ ns. is_among ns name) (sym (changed_in_arm-is here)) ∙ ap (λ x. is_among (changed_in_arm x) name) here_is ∙ among_part changed_in_arm arms i here there name apart
 
       -- an arm whose test is 0
@@ -69,12 +70,12 @@ module _ (arrays : List Array) where
 
       -- an arm whose test traps
       pub arm_stops : (trap : TurnTrap) (s₀ : List ℤ) (m₀ : Memory) (s : List ℤ) (m : Memory) → AreLeft i s₀ m₀ s m → Err trap ≡ at_line here.line (value arrays s m.words here.test)
-          → RunsArms arrays (map (arm_effect arrays) arms) (joined (map changed_in_arm arms)) (Err trap) s₀ m₀ s m
+          → RunsArms arrays (map (arm_effect arrays) arms) (concat (map changed_in_arm arms)) (Err trap) s₀ m₀ s m
       arm_stops trap s₀ m₀ s m left is = record {
         same = λ other go. left.same other go ∙ ap (λ t. on_words (sizes_of arrays) (arms_from i other t go) m₀.words) (sym left.scalars)
             ∙ ap (λ (w : Memory). on_words (sizes_of arrays) (arms_from i other s go) w.words) (sym left.memory) ∙ test_is other s m go (Err trap) is;
         sizes = ap (λ (w : Memory). w.sizes) left.memory;
-        kept = subst (λ t. KeepsOthers (joined (map changed_in_arm arms)) s₀ t) (sym left.scalars) (keeps_same _ s₀);
+        kept = subst (λ t. KeepsOthers (concat (map changed_in_arm arms)) s₀ t) (sym left.scalars) (keeps_same _ s₀);
       }
 
       -- an arm whose test isn't 0: its block was carried out, to its end or to a trap
@@ -87,25 +88,25 @@ module _ (arrays : List Array) where
         sizes_kept : (m' : Memory) → m'.sizes ≡ m.sizes → m'.sizes ≡ m₀.sizes
         sizes_kept m' e = e ∙ ap (λ (w : Memory). w.sizes) left.memory
 
-        names_kept : (s' : List ℤ) → KeepsOthers (names_changed here.body) s s' → KeepsOthers (joined (map changed_in_arm arms)) s₀ s'
-        names_kept s' kept = subst (λ t. KeepsOthers (joined (map changed_in_arm arms)) t s') left.scalars (keeps_more (names_changed here.body) (joined (map changed_in_arm arms)) s s' here_names kept)
+        names_kept : (s' : List ℤ) → KeepsOthers (names_changed here.body) s s' → KeepsOthers (concat (map changed_in_arm arms)) s₀ s'
+        names_kept s' kept = subst (λ t. KeepsOthers (concat (map changed_in_arm arms)) t s') left.scalars (keeps_more (names_changed here.body) (concat (map changed_in_arm arms)) s s' here_names kept)
 
         pub arm_runs : (s' : List ℤ) (m' : Memory) → Runs arrays (sequence (map (effect arrays) here.body)) (names_changed here.body) (Ok tt) s m s' m'
-            → RunsArms arrays (map (arm_effect arrays) arms) (joined (map changed_in_arm arms)) (Ok true) s₀ m₀ s' m'
+            → RunsArms arrays (map (arm_effect arrays) arms) (concat (map changed_in_arm arms)) (Ok true) s₀ m₀ s' m'
         arm_runs s' m' runs = record { same = λ other go. block_of other go ∙ runs.same go; sizes = sizes_kept m' runs.sizes; kept = names_kept s' runs.kept }
 
         pub arm_traps : (trap : TurnTrap) (s' : List ℤ) (m' : Memory) → Runs arrays (sequence (map (effect arrays) here.body)) (names_changed here.body) (Err trap) s m s' m'
-            → RunsArms arrays (map (arm_effect arrays) arms) (joined (map changed_in_arm arms)) (Err trap) s₀ m₀ s' m'
+            → RunsArms arrays (map (arm_effect arrays) arms) (concat (map changed_in_arm arms)) (Err trap) s₀ m₀ s' m'
         arm_traps trap s' m' runs = record { same = λ other go. block_of other go ∙ runs.same go; sizes = sizes_kept m' runs.sizes; kept = names_kept s' runs.kept }
 
     -- no arm is left
     pub arms_end : (i : ℕ) (s₀ : List ℤ) (m₀ : Memory) (s : List ℤ) (m : Memory) → length arms ≤ i → AreLeft i s₀ m₀ s m
-        → RunsArms arrays (map (arm_effect arrays) arms) (joined (map changed_in_arm arms)) (Ok false) s₀ m₀ s m
+        → RunsArms arrays (map (arm_effect arrays) arms) (concat (map changed_in_arm arms)) (Ok false) s₀ m₀ s m
     arms_end i s₀ m₀ s m over left = record {
       same = λ other go. left.same other go ∙ ap (λ rest. on_words (sizes_of arrays) (choose (map (arm_effect arrays) rest) other s₀ go) m₀.words) (drop_all i arms over)
           ∙ ap (λ t. on_words (sizes_of arrays) (other t go) m₀.words) (sym left.scalars) ∙ ap (λ (w : Memory). on_words (sizes_of arrays) (other s go) w.words) (sym left.memory);
       sizes = ap (λ (w : Memory). w.sizes) left.memory;
-      kept = subst (λ t. KeepsOthers (joined (map changed_in_arm arms)) s₀ t) (sym left.scalars) (keeps_same _ s₀);
+      kept = subst (λ t. KeepsOthers (concat (map changed_in_arm arms)) s₀ t) (sym left.scalars) (keeps_same _ s₀);
     }
 
   -- a loop
@@ -176,14 +177,14 @@ module _ (arrays : List Array) where
         ≡ on_words (sizes_of arrays) (choose (map (arm_effect arrays) arms) (sequence (map (effect arrays) other)) s go) m.words
     if_is go = ap (λ f. on_words (sizes_of arrays) (f s go) m.words) (effect-if arrays arms other)
 
-    arms_names : (name : ℕ) → is_among (changed (stmt.If arms other)) name ≡ false → is_among (joined (map changed_in_arm arms)) name ≡ false
-    arms_names name apart = among_left (joined (map changed_in_arm arms)) (joined (map changed other)) name (ap (λ ns. is_among ns name) (sym (changed-if arms other)) ∙ apart)
+    arms_names : (name : ℕ) → is_among (changed (stmt.If arms other)) name ≡ false → is_among (concat (map changed_in_arm arms)) name ≡ false
+    arms_names name apart = among_left (concat (map changed_in_arm arms)) (concat (map changed other)) name (ap (λ ns. is_among ns name) (sym (changed-if arms other)) ∙ apart)
 
     other_names : (name : ℕ) → is_among (changed (stmt.If arms other)) name ≡ false → is_among (names_changed other) name ≡ false
-    other_names name apart = among_right (joined (map changed_in_arm arms)) (joined (map changed other)) name (ap (λ ns. is_among ns name) (sym (changed-if arms other)) ∙ apart)
+    other_names name apart = among_right (concat (map changed_in_arm arms)) (concat (map changed other)) name (ap (λ ns. is_among ns name) (sym (changed-if arms other)) ∙ apart)
 
     abbrev ArmsRun : Result Bool TurnTrap → Type 0
-    ArmsRun taken = RunsArms arrays (map (arm_effect arrays) arms) (joined (map changed_in_arm arms)) taken s m s' m'
+    ArmsRun taken = RunsArms arrays (map (arm_effect arrays) arms) (concat (map changed_in_arm arms)) taken s m s' m'
 
     pub if_stops : (trap : TurnTrap) → ArmsRun (Err trap) → Runs arrays (effect arrays (stmt.If arms other)) (changed (stmt.If arms other)) (Err trap) s m s' m'
     if_stops trap runs = record { same = λ go. if_is go ∙ runs.same (sequence (map (effect arrays) other)) go; sizes = runs.sizes; kept = keeps_more _ _ s s' arms_names runs.kept }

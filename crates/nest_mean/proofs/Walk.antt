@@ -19,12 +19,11 @@ use Rattle.nest_syntax.specs.Course.{Setting, Course, Ordinary, Header, Item, Te
 use Rattle.nest_syntax.specs.Outcome.{Ending, TrappedAt, place_of_trap, turn_in, ending_from}
 use Rattle.nest_syntax.proofs.Equations.{tested_of, tested-is, looped-is, item-declare, item-assign, item-write, item-if, item-loop}
 use Rattle.word_store.specs.Memory.{Memory}
-use Rattle.nest_mean.specs.declared.stops.Stop.{Stop}
-use Rattle.nest_mean.specs.declared.stops.Stop.TheVariants as stop
-use Rattle.nest_mean.specs.NamesChanged.{changed, KeepsOthers}
-use Rattle.nest_mean.specs.CourseParts.{event_words, header, scalars_changed, with_result, at_scheduler, Stand, Reaches, Passes, bodies_in, after_arms, PassesArms, Iterates, IteratesAll, PassesTurns, items_in}
+use Rattle.nest_syntax.specs.declared.place.Place.{Place}
+use Rattle.nest_mean.specs.NamesChanged.{names_changed, KeepsOthers}
+use Rattle.nest_mean.specs.CourseParts.{event_words, header, scalars_changed, with_result, at_scheduler, Stand, Reaches, Passes, bodies_in, PassesArms, Iterates, IteratesAll, PassesTurns, items_in}
 use Rattle.nest_mean.proofs.Names.{changed-write}
-use Rattle.nest_mean.proofs.Rounds.{reaches_from, reaches_to, reaches_stop, event_is}
+use Rattle.nest_mean.proofs.Rounds.{reaches_from, reaches_to, event_is}
 
 stand_front : (bodies : List (List Stmt)) (first : ℕ) (xs ys : List (List Stmt)) → Stand bodies first (xs ++ ys) → Stand bodies first xs
 stand_front bodies first [] ys stands = tt
@@ -109,12 +108,11 @@ module _ (arrays : List Array) (opening : List ℤ) where
       few = omega (arith, passed.few, few_left);
     }
 
-    pub item_ends : (stopped : Stop) → Passes arrays here most (Err stopped) s n m s' n' m' → Passes arrays whole most (Err stopped) s₀ n₀ m₀ s' n' m'
+    pub item_ends : (stopped : Place) → Passes arrays here most (Err stopped) s n m s' n' m' → Passes arrays whole most (Err stopped) s₀ n₀ m₀ s' n' m'
     item_ends stopped passed = record {
       same = λ bodies first stands go.
-          reaches_stop stopped (λ (_ : Unit {0}). ends bodies (next.events (first + ahead.passed + length here.bodies) s' go) n' m') _ _
-          (reaches_from (Err stopped) _ _ _ (comes bodies first stands go)
-          (passed.same bodies (first + ahead.passed) (stand_front bodies (first + ahead.passed) here.bodies next.bodies (here_stands bodies first stands)) (λ after. next.events (first + ahead.passed + length here.bodies) after go)));
+          comes bodies first stands go
+          ∙ passed.same bodies (first + ahead.passed) (stand_front bodies (first + ahead.passed) here.bodies next.bodies (here_stands bodies first stands)) (λ after. next.events (first + ahead.passed + length here.bodies) after go);
       sizes = passed.sizes ∙ ahead.sizes;
       few = omega (arith, passed.few, few_left);
     }
@@ -139,18 +137,18 @@ module _ (arrays : List Array) (opening : List ℤ) where
     pub listed_passes : (s' : List ℤ) (n' : ℕ) (m' : Memory) → Passes arrays (f here) most (Ok tt) s n m s' n' m' → IsAhead (in_order (map f xs)) (in_order (map f (drop (i + 1) xs))) most s₀ n₀ m₀ s' n' m'
     listed_passes s' n' m' passed = item_passes (in_order (map f xs)) (in_order (map f (drop i xs))) (f here) (in_order (map f (drop (i + 1) xs))) most s₀ n₀ m₀ s n m (items_from-is f xs i there here is) ahead s' n' m' passed
 
-    pub listed_ends : (stopped : Stop) (s' : List ℤ) (n' : ℕ) (m' : Memory) → Passes arrays (f here) most (Err stopped) s n m s' n' m' → Passes arrays (in_order (map f xs)) most (Err stopped) s₀ n₀ m₀ s' n' m'
+    pub listed_ends : (stopped : Place) (s' : List ℤ) (n' : ℕ) (m' : Memory) → Passes arrays (f here) most (Err stopped) s n m s' n' m' → Passes arrays (in_order (map f xs)) most (Err stopped) s₀ n₀ m₀ s' n' m'
     listed_ends stopped s' n' m' passed = item_ends (in_order (map f xs)) (in_order (map f (drop i xs))) (f here) (in_order (map f (drop (i + 1) xs))) most s₀ n₀ m₀ s n m (items_from-is f xs i there here is) ahead s' n' m' stopped passed
 
   pub listed_over : {A : Type 0} (f : A → Item) (xs : List A) (most : ℕ) (i : ℕ) → length xs ≤ i → (s₀ : List ℤ) (n₀ : ℕ) (m₀ : Memory) (s : List ℤ) (n : ℕ) (m : Memory)
       → IsAhead (in_order (map f xs)) (in_order (map f (drop i xs))) most s₀ n₀ m₀ s n m → Passes arrays (in_order (map f xs)) most (Ok tt) s₀ n₀ m₀ s n m
   listed_over f xs most i over s₀ n₀ m₀ s n m ahead = ahead_ends (in_order (map f xs)) (in_order (map f (drop i xs))) most s₀ n₀ m₀ s n m (no_items-is f xs i over) ahead
 
-  pub passes_as : (item item' : Item) (most : ℕ) (result : Result (Unit {0}) Stop) (s : List ℤ) (n : ℕ) (m : Memory) (s' : List ℤ) (n' : ℕ) (m' : Memory) → item' ≡ item → Passes arrays item most result s n m s' n' m' → Passes arrays item' most result s n m s' n' m'
+  pub passes_as : (item item' : Item) (most : ℕ) (result : Result (Unit {0}) Place) (s : List ℤ) (n : ℕ) (m : Memory) (s' : List ℤ) (n' : ℕ) (m' : Memory) → item' ≡ item → Passes arrays item most result s n m s' n' m' → Passes arrays item' most result s n m s' n' m'
   passes_as item item' most result s n m s' n' m' is passed = subst (λ i. Passes arrays i most result s n m s' n' m') (sym is) passed
 
   -- an assignment
-  pub item_assigns : (line : Line) (name : ℕ) (o : Op) (e : Expr) (changed' : Result (Unit {0}) Cause) (result : Result (Unit {0}) Stop) (s : List ℤ) (n : ℕ) (m : Memory) (s' : List ℤ)
+  pub item_assigns : (line : Line) (name : ℕ) (o : Op) (e : Expr) (changed' : Result (Unit {0}) Cause) (result : Result (Unit {0}) Place) (s : List ℤ) (n : ℕ) (m : Memory) (s' : List ℤ)
       → with_result changed' s' ≡ scalars_changed arrays name o e s (event_words arrays (e ∷ []) m.words opening) → result ≡ at_scheduler line n changed'
       → Passes arrays (item_node setting (Stmt-F.Assign line name o e)) 16777216 result s n m s' n m
   item_assigns line name o e changed' result s n m s' is answer = record {
@@ -168,19 +166,19 @@ module _ (arrays : List Array) (opening : List ℤ) where
       by_result bodies go (Ok done) answer = subst (λ r. Reaches r (λ done. ends bodies (go s') n m) (ends bodies (go s') n m)) (sym answer) refl
       by_result bodies go (Err cause) answer = subst (λ r. Reaches r (λ done. ends bodies (go s') n m) (TrappedAt (place_of_trap cause line n true))) (sym answer) refl
 
-  pub item_assign : (line : Line) (name : ℕ) (o : Op) (e : Expr) (changed' : Result (Unit {0}) Cause) (result : Result (Unit {0}) Stop) (s : List ℤ) (n : ℕ) (m : Memory) (s' : List ℤ)
+  pub item_assign : (line : Line) (name : ℕ) (o : Op) (e : Expr) (changed' : Result (Unit {0}) Cause) (result : Result (Unit {0}) Place) (s : List ℤ) (n : ℕ) (m : Memory) (s' : List ℤ)
       → with_result changed' s' ≡ scalars_changed arrays name o e s (event_words arrays (e ∷ []) m.words opening) → result ≡ at_scheduler line n changed'
       → Passes arrays (item_of setting (stmt.Assign line name o e)) 16777216 result s n m s' n m
   item_assign line name o e changed' result s n m s' is answer = passes_as _ _ _ _ _ _ _ _ _ _ (item-assign setting line name o e) (item_assigns line name o e changed' result s n m s' is answer)
 
-  pub item_declare : (line : Line) (name : ℕ) (e : Expr) (changed' : Result (Unit {0}) Cause) (result : Result (Unit {0}) Stop) (s : List ℤ) (n : ℕ) (m : Memory) (s' : List ℤ)
+  pub item_declare : (line : Line) (name : ℕ) (e : Expr) (changed' : Result (Unit {0}) Cause) (result : Result (Unit {0}) Place) (s : List ℤ) (n : ℕ) (m : Memory) (s' : List ℤ)
       → with_result changed' s' ≡ scalars_changed arrays name op.Set e s (event_words arrays (e ∷ []) m.words opening) → result ≡ at_scheduler line n changed'
       → Passes arrays (item_of setting (stmt.Declare line name e)) 16777216 result s n m s' n m
   item_declare line name e changed' result s n m s' is answer = passes_as _ _ _ _ _ _ _ _ _ _ (item-declare setting line name e) (item_assigns line name op.Set e changed' result s n m s' is answer)
 
   -- a statement that writes a word
-  pub item_write : (line : Line) (name : ℕ) (place : Expr) (o : Op) (e : Expr) (result : Result (Unit {0}) Stop) (s : List ℤ) (n : ℕ) (m : Memory) (s' : List ℤ) (n' : ℕ) (m' : Memory)
-      → Iterates arrays (stmt.Write line name place o e ∷ []) (changed (stmt.Write line name place o e)) result s n m s' n' m' → Passes arrays (item_of setting (stmt.Write line name place o e)) 16777216 result s n m s' n' m'
+  pub item_write : (line : Line) (name : ℕ) (place : Expr) (o : Op) (e : Expr) (result : Result (Unit {0}) Place) (s : List ℤ) (n : ℕ) (m : Memory) (s' : List ℤ) (n' : ℕ) (m' : Memory)
+      → Iterates arrays (stmt.Write line name place o e ∷ []) (names_changed (stmt.Write line name place o e ∷ [])) result s n m s' n' m' → Passes arrays (item_of setting (stmt.Write line name place o e)) 16777216 result s n m s' n' m'
   item_write line name place o e result s n m s' n' m' ran = passes_as _ _ _ _ _ _ _ _ _ _ (item-write setting line name place o e) (record {
     same = λ bodies first stands go. reaches_to result (λ done. ends bodies (go s) n' m') (λ done. ends bodies (go s') n' m') _ (λ done. ap (λ t. ends bodies (go t) n' m') (sym same_scalars)) (ran.same bodies first stands.0 (Course.Close (go s)));
     sizes = ran.sizes;
@@ -188,7 +186,7 @@ module _ (arrays : List Array) (opening : List ℤ) where
   })
     where
       kept : KeepsOthers [] s s'
-      kept = subst (λ names. KeepsOthers names s s') (changed-write line name place o e) ran.kept
+      kept = subst (λ names. KeepsOthers names s s') (ap (λ names. names ++ []) (changed-write line name place o e)) ran.kept
 
       same_scalars : s' ≡ s
       same_scalars = ext_get_or (pos 0) s' s kept.many (λ at there. kept.others at refl)
@@ -215,7 +213,7 @@ module _ (arrays : List Array) (opening : List ℤ) where
 
   module _ (l : Loop) (s : List ℤ) (n : ℕ) (m : Memory) where
     pub invocation_traps : (cause : Cause) → Err cause ≡ header arrays l s (event_words arrays (l.low ∷ l.high ∷ []) m.words opening)
-        → Passes arrays (looped_of setting l).invocation 16777216 (Err (stop.Trapped (place_of_trap cause l.line n true))) s n m s n m
+        → Passes arrays (looped_of setting l).invocation 16777216 (Err (place_of_trap cause l.line n true)) s n m s n m
     invocation_traps cause is = passes_as _ _ _ _ _ _ _ _ _ _ (invocation-is l) (record {
       same = λ bodies first stands go.
           event_is setting Header l.line (l.low ∷ l.high ∷ []) (header arrays l s) (λ b. iterations b.1 0 first (λ k. with_scalar s l.name (variable b.0 l.step k)) (go s)) (sizes_of arrays) (turn_in arrays bodies) n m.words
@@ -225,7 +223,7 @@ module _ (arrays : List Array) (opening : List ℤ) where
     })
 
     pub invocation_runs : (low : ℤ) (count : ℕ) → Ok (low, count) ≡ header arrays l s (event_words arrays (l.low ∷ l.high ∷ []) m.words opening) → count ≤ 16777216
-        → (result : Result (Unit {0}) Stop) (s' : List ℤ) (n' : ℕ) (m' : Memory) → IteratesAll arrays l low count result s n m s' n' m' → Passes arrays (looped_of setting l).invocation 16777216 result s n m s' n' m'
+        → (result : Result (Unit {0}) Place) (s' : List ℤ) (n' : ℕ) (m' : Memory) → IteratesAll arrays l low count result s n m s' n' m' → Passes arrays (looped_of setting l).invocation 16777216 result s n m s' n' m'
     invocation_runs low count is few result s' n' m' ran = passes_as _ _ _ _ _ _ _ _ _ _ (invocation-is l) (record {
       same = λ bodies first stands go.
           reaches_from result _ _ _
@@ -237,7 +235,7 @@ module _ (arrays : List Array) (opening : List ℤ) where
     })
 
     pub region_traps : (cause : Cause) (most : ℕ) → Err cause ≡ header arrays l s (event_words arrays (l.low ∷ l.high ∷ []) m.words opening)
-        → Passes arrays (region_of setting l) most (Err (stop.Trapped (place_of_trap cause l.line n true))) s n m s n m
+        → Passes arrays (region_of setting l) most (Err (place_of_trap cause l.line n true)) s n m s n m
     region_traps cause most is = passes_as _ _ _ _ _ _ _ _ _ _ (region-is l) (record {
       same = λ bodies first stands go.
           event_is setting Ordinary l.line (l.low ∷ l.high ∷ []) (header arrays l s) (λ b. region_turns b.1 0 (variable b.0 l.step) l.name ((items_in setting l.body).events first) s go) (sizes_of arrays) (turn_in arrays bodies) n m.words
@@ -247,7 +245,7 @@ module _ (arrays : List Array) (opening : List ℤ) where
     })
 
     pub region_runs : (low : ℤ) (count : ℕ) → Ok (low, count) ≡ header arrays l s (event_words arrays (l.low ∷ l.high ∷ []) m.words opening) → count ≤ 16777216
-        → (result : Result (Unit {0}) Stop) (s' : List ℤ) (n' : ℕ) (m' : Memory) → PassesTurns arrays (items_in setting l.body) l low count result s n m s' n' m' → Passes arrays (region_of setting l) 281474976710656 result s n m s' n' m'
+        → (result : Result (Unit {0}) Place) (s' : List ℤ) (n' : ℕ) (m' : Memory) → PassesTurns arrays (items_in setting l.body) l low count result s n m s' n' m' → Passes arrays (region_of setting l) 281474976710656 result s n m s' n' m'
     region_runs low count is few result s' n' m' ran = passes_as _ _ _ _ _ _ _ _ _ _ (region-is l) (record {
       same = λ bodies first stands go.
           reaches_from result _ _ _
@@ -371,7 +369,7 @@ module _ (arrays : List Array) (opening : List ℤ) where
       }
 
       pub arm_fails : (cause : Cause) → Err cause ≡ value arrays s (event_words arrays (here.test ∷ []) m.words opening) here.test
-          → PassesArms arrays (map (tested_of setting) arms) 16777216 (Err (stop.Trapped (place_of_trap cause here.line n true))) s₀ n₀ m₀ s n m
+          → PassesArms arrays (map (tested_of setting) arms) 16777216 (Err (place_of_trap cause here.line n true)) s₀ n₀ m₀ s n m
       arm_fails cause is = record {
         same = λ bodies first other stands go. tested_at (Err cause) is bodies first other stands go;
         sizes = ap (λ (w : Memory). w.sizes) ahead.memory;
@@ -400,10 +398,10 @@ module _ (arrays : List Array) (opening : List ℤ) where
           few = arm_few n' passed.few;
         }
 
-        pub arm_ends : (stopped : Stop) → Passes arrays (items_in setting here.body) 16777216 (Err stopped) s n m s' n' m' → PassesArms arrays (map (tested_of setting) arms) 16777216 (Err stopped) s₀ n₀ m₀ s' n' m'
+        pub arm_ends : (stopped : Place) → Passes arrays (items_in setting here.body) 16777216 (Err stopped) s n m s' n' m' → PassesArms arrays (map (tested_of setting) arms) 16777216 (Err stopped) s₀ n₀ m₀ s' n' m'
         arm_ends stopped passed = record {
           same = λ bodies first other stands go.
-              reaches_stop stopped (λ (_ : Unit {0}). ends bodies (go s') n' m') _ _ (reaches_from (Err stopped) _ _ _ (taken bodies first other stands go) (passed.same bodies (first + ahead.passed) (body_stands bodies first other stands) go));
+              taken bodies first other stands go ∙ passed.same bodies (first + ahead.passed) (body_stands bodies first other stands) go;
           sizes = passed.sizes ∙ ap (λ (w : Memory). w.sizes) ahead.memory;
           few = arm_few n' passed.few;
         }
@@ -430,12 +428,12 @@ module _ (arrays : List Array) (opening : List ℤ) where
     pub if_count : length (item_of setting (stmt.If arms other)).bodies ≡ bodies_in (map (tested_of setting) arms) + length (items_in setting other).bodies
     if_count = ap (λ (i : Item). length i.bodies) if-is ∙ bodies_split (map (tested_of setting) arms) (items_in setting other)
 
-    abbrev ArmsPass : Result Bool Stop → Type 0
+    abbrev ArmsPass : Result Bool Place → Type 0
     ArmsPass was = PassesArms arrays (map (tested_of setting) arms) 16777216 was s n m s' n' m'
 
-    pub if_fails : (stopped : Stop) → ArmsPass (Err stopped) → Passes arrays (item_of setting (stmt.If arms other)) 16777216 (Err stopped) s n m s' n' m'
+    pub if_fails : (stopped : Place) → ArmsPass (Err stopped) → Passes arrays (item_of setting (stmt.If arms other)) 16777216 (Err stopped) s n m s' n' m'
     if_fails stopped passed = passes_as if_item _ _ _ _ _ _ _ _ _ if-is (record {
-      same = λ bodies first stands go. reaches_stop stopped (λ was. ends bodies (after_arms (map (tested_of setting) arms) (items_in setting other) first s' go was) n' m') _ _ (passed.same bodies first (items_in setting other) stands go);
+      same = λ bodies first stands go. passed.same bodies first (items_in setting other) stands go;
       sizes = passed.sizes;
       few = omega (arith, passed.few, bodies_split (map (tested_of setting) arms) (items_in setting other));
     })
@@ -447,7 +445,7 @@ module _ (arrays : List Array) (opening : List ℤ) where
       few = omega (arith, passed.few, bodies_split (map (tested_of setting) arms) (items_in setting other));
     })
 
-    pub if_goes_on : (result : Result (Unit {0}) Stop) (s'' : List ℤ) (n'' : ℕ) (m'' : Memory) → ArmsPass (Ok false) → Passes arrays (items_in setting other) 16777216 result s' n' m' s'' n'' m''
+    pub if_goes_on : (result : Result (Unit {0}) Place) (s'' : List ℤ) (n'' : ℕ) (m'' : Memory) → ArmsPass (Ok false) → Passes arrays (items_in setting other) 16777216 result s' n' m' s'' n'' m''
         → Passes arrays (item_of setting (stmt.If arms other)) 16777216 result s n m s'' n'' m''
     if_goes_on result s'' n'' m'' passed others = passes_as if_item _ _ _ _ _ _ _ _ _ if-is (record {
       same = λ bodies first stands go.
@@ -460,7 +458,7 @@ module _ (arrays : List Array) (opening : List ℤ) where
     pub if_arms_room : n + 16777216 * length (item_of setting (stmt.If arms other)).bodies < 2 ^ 64 → n + 16777216 * bodies_in (map (tested_of setting) arms) < 2 ^ 64
     if_arms_room room = omega (arith, if_count)
 
-    pub if_other_room : n + 16777216 * length (item_of setting (stmt.If arms other)).bodies < 2 ^ 64 → (was : Result Bool Stop) → ArmsPass was → n' + 16777216 * length (items_in setting other).bodies < 2 ^ 64
+    pub if_other_room : n + 16777216 * length (item_of setting (stmt.If arms other)).bodies < 2 ^ 64 → (was : Result Bool Place) → ArmsPass was → n' + 16777216 * length (items_in setting other).bodies < 2 ^ 64
     if_other_room room was passed = omega (arith, if_count, passed.few)
 
   -- the room that an item asks for
@@ -470,7 +468,7 @@ module _ (arrays : List Array) (opening : List ℤ) where
   pub invocation_room : (l : Loop) (n : ℕ) → n + 16777216 * length (item_of setting (stmt.Loop l)).bodies < 2 ^ 64 → n + 16777216 < 2 ^ 64
   invocation_room l n room = let one : length (item_of setting (stmt.Loop l)).bodies ≡ 1 = ap (λ (i : Item). length i.bodies) (item-loop setting l ∙ invocation-is l) in omega (arith, one)
 
-  pub item_invokes : (l : Loop) (result : Result (Unit {0}) Stop) (s : List ℤ) (n : ℕ) (m : Memory) (s' : List ℤ) (n' : ℕ) (m' : Memory)
+  pub item_invokes : (l : Loop) (result : Result (Unit {0}) Place) (s : List ℤ) (n : ℕ) (m : Memory) (s' : List ℤ) (n' : ℕ) (m' : Memory)
       → Passes arrays (looped_of setting l).invocation 16777216 result s n m s' n' m' → Passes arrays (item_of setting (stmt.Loop l)) 16777216 result s n m s' n' m'
   item_invokes l result s n m s' n' m' passed = passes_as _ _ _ _ _ _ _ _ _ _ (item-loop setting l) passed
 

@@ -1,14 +1,11 @@
 -- The outcome of a nest, from how its regions are carried out.
 use Rattle.std.proofs.Common.{◌≡◌, ℕ, ◌+◌, ◌*◌, ◌^◌, ◌<◌, ℤ, Result, Ok, Err, List, [], map, length, refl, sym, ap, ◌∙◌, subst, arith}
-use Rattle.nest_syntax.specs.declared.place.Place.{Place}
-use Rattle.nest_syntax.specs.declared.tree.Decl.{Decl}
 use Rattle.nest_syntax.specs.declared.tree.Loop.{Loop}
 use Rattle.nest_syntax.specs.declared.tree.Program.{Program}
 use Rattle.nest_syntax.specs.Arrays.{arrays_of}
 use Rattle.nest_syntax.specs.Course.{Item, in_order, region_of, setting_of, bodies_of, opening_scalars, End}
 use Rattle.word_store.specs.Memory.{Memory}
-use Rattle.nest_mean.specs.declared.stops.Stop.{Stop}
-use Rattle.nest_mean.specs.declared.stops.Stop.TheVariants as stop
+use Rattle.nest_syntax.specs.declared.place.Place.{Place}
 use Rattle.nest_mean.specs.declared.outcomes.Outcome.TheVariants as outcomes
 use Rattle.nest_mean.specs.Nest.{Nest, CanRun}
 use Rattle.nest_mean.specs.Outcomes.{as_outcome, outcome}
@@ -29,7 +26,7 @@ module _ (nest : Nest) (runs : CanRun nest) where
   bodies_stand = subst (λ bodies. Stand (bodies_of nest.program) 0 bodies) bodies_are (stand_all (bodies_of nest.program))
 
   module _ (s' : List ℤ) (n' : ℕ) (m' : Memory) where
-    abbrev RegionsPass : Result (Unit {0}) Stop → Type 0
+    abbrev RegionsPass : Result (Unit {0}) Place → Type 0
     RegionsPass result = Passes (arrays_of nest.program.decls) regions 281474976710656 result (opening_scalars nest.program) 0 nest.opening s' n' m'
 
     pub run_is_done : RegionsPass (Ok tt) → outcomes.Done m' ≡ outcome nest
@@ -37,27 +34,24 @@ module _ (nest : Nest) (runs : CanRun nest) where
         ap (λ sizes. outcomes.Done (record { sizes = sizes; words = m'.words })) passed.sizes
         ∙ ap (as_outcome nest.opening.sizes) (sym (passed.same (bodies_of nest.program) 0 bodies_stand (λ after. End)))
 
-    pub run_traps : (place : Place) → RegionsPass (Err (stop.Trapped place)) → outcomes.Trapped place ≡ outcome nest
+    pub run_traps : (place : Place) → RegionsPass (Err place) → outcomes.Trapped place ≡ outcome nest
     run_traps place passed = ap (as_outcome nest.opening.sizes) (sym (passed.same (bodies_of nest.program) 0 bodies_stand (λ after. End)))
 
   -- the same, of what a caller has at hand
-  pub regions_given : (program : Program) (opening m : Memory) (s : List ℤ) (decls : List Decl) (listed : List Loop) (result : Result (Unit {0}) Stop) (n : ℕ) (s' : List ℤ) (n' : ℕ) (m' : Memory)
-      → program ≡ nest.program → opening ≡ nest.opening → m ≡ nest.opening → s ≡ opening_scalars program → decls ≡ program.decls → listed ≡ program.regions → n ≡ 0
-      → Passes (arrays_of decls) (in_order (map (region_of (setting_on decls opening.words)) listed)) 281474976710656 result s n m s' n' m' → RegionsPass s' n' m' result
-  regions_given program opening m s decls listed result n s' n' m' program_is opening_is words_are scalars_are decls_are regions_are none passed =
+  pub regions_given : (program : Program) (opening m : Memory) (s : List ℤ) (listed : List Loop) (result : Result (Unit {0}) Place) (n : ℕ) (s' : List ℤ) (n' : ℕ) (m' : Memory)
+      → program ≡ nest.program → opening ≡ nest.opening → m ≡ nest.opening → s ≡ opening_scalars program → listed ≡ program.regions → n ≡ 0
+      → Passes (arrays_of program.decls) (in_order (map (region_of (setting_on program.decls opening.words)) listed)) 281474976710656 result s n m s' n' m' → RegionsPass s' n' m' result
+  regions_given program opening m s listed result n s' n' m' program_is opening_is words_are scalars_are regions_are none passed =
       subst (λ (p : Program). Passes (arrays_of p.decls) (in_order (map (region_of (setting_on p.decls nest.opening.words)) p.regions)) 281474976710656 result (opening_scalars p) 0 nest.opening s' n' m') program_is
-      (subst (λ d. Passes (arrays_of d) (in_order (map (region_of (setting_on d nest.opening.words)) program.regions)) 281474976710656 result (opening_scalars program) 0 nest.opening s' n' m') decls_are
-      (subst (λ r. Passes (arrays_of decls) (in_order (map (region_of (setting_on decls nest.opening.words)) r)) 281474976710656 result (opening_scalars program) 0 nest.opening s' n' m') regions_are
-      (subst (λ (o : Memory). Passes (arrays_of decls) (in_order (map (region_of (setting_on decls o.words)) listed)) 281474976710656 result (opening_scalars program) 0 nest.opening s' n' m') opening_is
-      (subst (λ (w : Memory). Passes (arrays_of decls) (in_order (map (region_of (setting_on decls opening.words)) listed)) 281474976710656 result (opening_scalars program) 0 w s' n' m') words_are
-      (subst (λ t. Passes (arrays_of decls) (in_order (map (region_of (setting_on decls opening.words)) listed)) 281474976710656 result t 0 m s' n' m') scalars_are
-      (subst (λ k. Passes (arrays_of decls) (in_order (map (region_of (setting_on decls opening.words)) listed)) 281474976710656 result s k m s' n' m') none passed))))))
+      (subst (λ r. Passes (arrays_of program.decls) (in_order (map (region_of (setting_on program.decls nest.opening.words)) r)) 281474976710656 result (opening_scalars program) 0 nest.opening s' n' m') regions_are
+      (subst (λ (o : Memory). Passes (arrays_of program.decls) (in_order (map (region_of (setting_on program.decls o.words)) listed)) 281474976710656 result (opening_scalars program) 0 nest.opening s' n' m') opening_is
+      (subst (λ (w : Memory). Passes (arrays_of program.decls) (in_order (map (region_of (setting_on program.decls opening.words)) listed)) 281474976710656 result (opening_scalars program) 0 w s' n' m') words_are
+      (subst (λ t. Passes (arrays_of program.decls) (in_order (map (region_of (setting_on program.decls opening.words)) listed)) 281474976710656 result t 0 m s' n' m') scalars_are
+      (subst (λ k. Passes (arrays_of program.decls) (in_order (map (region_of (setting_on program.decls opening.words)) listed)) 281474976710656 result s k m s' n' m') none passed)))))
 
-  pub room_given : (program : Program) (opening : Memory) (decls : List Decl) (listed : List Loop) → program ≡ nest.program → opening ≡ nest.opening → decls ≡ program.decls → listed ≡ program.regions
-      → 0 + 281474976710656 * length (in_order (map (region_of (setting_on decls opening.words)) listed)).bodies < 2 ^ 64
-  room_given program opening decls listed program_is opening_is decls_are regions_are =
-      let decls_of : nest.program.decls ≡ decls = ap (λ (p : Program). p.decls) (sym program_is) ∙ sym decls_are in
-      let regions_of : nest.program.regions ≡ listed = ap (λ (p : Program). p.regions) (sym program_is) ∙ sym regions_are in
-      subst (λ d. 0 + 281474976710656 * length (in_order (map (region_of (setting_on d opening.words)) listed)).bodies < 2 ^ 64) decls_of
-      (subst (λ r. 0 + 281474976710656 * length (in_order (map (region_of (setting_on nest.program.decls opening.words)) r)).bodies < 2 ^ 64) regions_of
+  pub room_given : (program : Program) (opening : Memory) (listed : List Loop) → program ≡ nest.program → opening ≡ nest.opening → listed ≡ program.regions
+      → 0 + 281474976710656 * length (in_order (map (region_of (setting_on program.decls opening.words)) listed)).bodies < 2 ^ 64
+  room_given program opening listed program_is opening_is regions_are =
+      subst (λ (p : Program). 0 + 281474976710656 * length (in_order (map (region_of (setting_on p.decls opening.words)) listed)).bodies < 2 ^ 64) (sym program_is)
+      (subst (λ r. 0 + 281474976710656 * length (in_order (map (region_of (setting_on nest.program.decls opening.words)) r)).bodies < 2 ^ 64) (ap (λ (p : Program). p.regions) (sym program_is) ∙ sym regions_are)
       (subst (λ (o : Memory). 0 + 281474976710656 * length (in_order (map (region_of (setting_on nest.program.decls o.words)) nest.program.regions)).bodies < 2 ^ 64) (sym opening_is) (regions_room 0 refl)))

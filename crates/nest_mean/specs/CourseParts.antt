@@ -16,8 +16,7 @@ use Rattle.nest_syntax.specs.Course.{Setting, Course, Iterate, Item, Tested, in_
 use Rattle.nest_syntax.specs.Outcome.{Ending, TrappedAt, place_of_trap, body_at, turn_in, ending_from}
 use Rattle.word_store.specs.Memory.{Memory}
 use Rattle.nest_mean.specs.declared.bodies.TurnTrap.{TurnTrap}
-use Rattle.nest_mean.specs.declared.stops.Stop.{Stop}
-use Rattle.nest_mean.specs.declared.stops.Stop.TheVariants as stop
+use Rattle.nest_syntax.specs.declared.place.Place.{Place}
 use Rattle.nest_mean.specs.NamesChanged.{KeepsOthers}
 
 -- the words on which an event evaluates these expressions: the words at that moment where one of them names a written
@@ -39,14 +38,14 @@ with_result (Ok done) scalars = Ok scalars
 with_result (Err cause) scalars = Err cause
 
 -- a trap of the scheduler, as a call answers it
-abbrev pub at_scheduler : Line → ℕ → Result (Unit {0}) Cause → Result (Unit {0}) Stop
+abbrev pub at_scheduler : Line → ℕ → Result (Unit {0}) Cause → Result (Unit {0}) Place
 at_scheduler line number (Ok done) = Ok done
-at_scheduler line number (Err cause) = Err (stop.Trapped (place_of_trap cause line number true))
+at_scheduler line number (Err cause) = Err (place_of_trap cause line number true)
 
 -- a trap of iteration `number`
-abbrev pub at_iteration : ℕ → Result (Unit {0}) TurnTrap → Result (Unit {0}) Stop
+abbrev pub at_iteration : ℕ → Result (Unit {0}) TurnTrap → Result (Unit {0}) Place
 at_iteration number (Ok done) = Ok done
-at_iteration number (Err trap) = Err (stop.Trapped (place_of_trap trap.cause trap.line number false))
+at_iteration number (Err trap) = Err (place_of_trap trap.cause trap.line number false)
 
 abbrev pub next_number : ℕ → Result (Unit {0}) TurnTrap → ℕ
 next_number number (Ok done) = number + 1
@@ -61,15 +60,14 @@ abbrev pub Stand : List (List Stmt) → ℕ → List (List Stmt) → Type 0
 Stand bodies first [] = Unit {0}
 Stand bodies first (body ∷ others) = (body_at bodies first ≡ body) × Stand bodies (suc first) others
 
--- A run goes on, or ends at its trap; of a run that lacked memory nothing is said.
-abbrev pub Reaches : {A : Type 0} → Result A Stop → (A → Ending) → Ending → Type 0
+-- a run goes on, or ends at its trap
+abbrev pub Reaches : {A : Type 0} → Result A Place → (A → Ending) → Ending → Type 0
 Reaches (Ok result) next ending = ending ≡ next result
-Reaches (Err (stop.Trapped place)) next ending = ending ≡ TrappedAt place
-Reaches (Err stop.NoMemory) next ending = Unit {0}
+Reaches (Err place) next ending = ending ≡ TrappedAt place
 
 -- An item was carried out: whatever follows goes on from the new scalars, the new number of iterations and the new
 -- words. There were at most so many iterations for each of its bodies.
-pub record Passes (arrays : List Array) (item : Item) (most : ℕ) (result : Result (Unit {0}) Stop) (scalars : List ℤ) (number : ℕ) (memory : Memory) (scalars' : List ℤ) (number' : ℕ) (memory' : Memory) : Type 0 where
+pub record Passes (arrays : List Array) (item : Item) (most : ℕ) (result : Result (Unit {0}) Place) (scalars : List ℤ) (number : ℕ) (memory : Memory) (scalars' : List ℤ) (number' : ℕ) (memory' : Memory) : Type 0 where
   pub same : (bodies : List (List Stmt)) (first : ℕ) → Stand bodies first item.bodies → (go : List ℤ → Course)
       → Reaches result (λ done. ending_from (sizes_of arrays) (turn_in arrays bodies) (go scalars') number' memory'.words) (ending_from (sizes_of arrays) (turn_in arrays bodies) (item.events first scalars go) number memory.words)
   pub sizes : memory'.sizes ≡ memory.sizes
@@ -86,7 +84,7 @@ after_arms arms other first scalars go true = go scalars
 after_arms arms other first scalars go false = other.events (first + bodies_in arms) scalars go
 
 -- arms were gone through, and the items of the first whose test isn't 0 were carried out
-pub record PassesArms (arrays : List Array) (arms : List Tested) (most : ℕ) (taken : Result Bool Stop) (scalars : List ℤ) (number : ℕ) (memory : Memory) (scalars' : List ℤ) (number' : ℕ) (memory' : Memory) : Type 0 where
+pub record PassesArms (arrays : List Array) (arms : List Tested) (most : ℕ) (taken : Result Bool Place) (scalars : List ℤ) (number : ℕ) (memory : Memory) (scalars' : List ℤ) (number' : ℕ) (memory' : Memory) : Type 0 where
   pub same : (bodies : List (List Stmt)) (first : ℕ) (other : Item) → Stand bodies first (chosen arms other).bodies → (go : List ℤ → Course)
       → Reaches taken (λ was. ending_from (sizes_of arrays) (turn_in arrays bodies) (after_arms arms other first scalars' go was) number' memory'.words)
       (ending_from (sizes_of arrays) (turn_in arrays bodies) ((chosen arms other).events first scalars go) number memory.words)
@@ -94,7 +92,7 @@ pub record PassesArms (arrays : List Array) (arms : List Tested) (most : ℕ) (t
   pub few : number' ≤ number + most * bodies_in arms
 
 -- an iteration of a body was carried out, and only scalars of these names have changed
-pub record Iterates (arrays : List Array) (body : List Stmt) (names : List ℕ) (result : Result (Unit {0}) Stop) (scalars : List ℤ) (number : ℕ) (memory : Memory) (scalars' : List ℤ) (number' : ℕ) (memory' : Memory) : Type 0 where
+pub record Iterates (arrays : List Array) (body : List Stmt) (names : List ℕ) (result : Result (Unit {0}) Place) (scalars : List ℤ) (number : ℕ) (memory : Memory) (scalars' : List ℤ) (number' : ℕ) (memory' : Memory) : Type 0 where
   pub same : (bodies : List (List Stmt)) (at : ℕ) → body_at bodies at ≡ body → (rest : Course)
       → Reaches result (λ done. ending_from (sizes_of arrays) (turn_in arrays bodies) rest number' memory'.words) (ending_from (sizes_of arrays) (turn_in arrays bodies) (Iterate at scalars rest) number memory.words)
   pub sizes : memory'.sizes ≡ memory.sizes
@@ -106,7 +104,7 @@ abbrev pub items_in : Setting → List Stmt → Item
 items_in setting stmts = in_order (map (item_of setting) stmts)
 
 -- all iterations of an invocation whose bounds are known were carried out, and the scalars are what they were
-pub record IteratesAll (arrays : List Array) (invoked : Loop) (low : ℤ) (count : ℕ) (result : Result (Unit {0}) Stop) (scalars : List ℤ) (number : ℕ) (memory : Memory) (scalars' : List ℤ) (number' : ℕ) (memory' : Memory) : Type 0 where
+pub record IteratesAll (arrays : List Array) (invoked : Loop) (low : ℤ) (count : ℕ) (result : Result (Unit {0}) Place) (scalars : List ℤ) (number : ℕ) (memory : Memory) (scalars' : List ℤ) (number' : ℕ) (memory' : Memory) : Type 0 where
   pub same : (bodies : List (List Stmt)) (at : ℕ) → body_at bodies at ≡ invoked.body → (go : List ℤ → Course)
       → Reaches result (λ done. ending_from (sizes_of arrays) (turn_in arrays bodies) (go scalars') number' memory'.words)
       (ending_from (sizes_of arrays) (turn_in arrays bodies) (iterations count 0 at (λ k. with_scalar scalars invoked.name (variable low invoked.step k)) (go scalars)) number memory.words)
@@ -114,7 +112,7 @@ pub record IteratesAll (arrays : List Array) (invoked : Loop) (low : ℤ) (count
   pub few : number' ≤ number + count
 
 -- all turns of a region whose bounds are known were carried out
-pub record PassesTurns (arrays : List Array) (items : Item) (region : Loop) (low : ℤ) (count : ℕ) (result : Result (Unit {0}) Stop) (scalars : List ℤ) (number : ℕ) (memory : Memory) (scalars' : List ℤ) (number' : ℕ) (memory' : Memory) : Type 0 where
+pub record PassesTurns (arrays : List Array) (items : Item) (region : Loop) (low : ℤ) (count : ℕ) (result : Result (Unit {0}) Place) (scalars : List ℤ) (number : ℕ) (memory : Memory) (scalars' : List ℤ) (number' : ℕ) (memory' : Memory) : Type 0 where
   pub same : (bodies : List (List Stmt)) (first : ℕ) → Stand bodies first items.bodies → (go : List ℤ → Course)
       → Reaches result (λ done. ending_from (sizes_of arrays) (turn_in arrays bodies) (go scalars') number' memory'.words)
       (ending_from (sizes_of arrays) (turn_in arrays bodies) (region_turns count 0 (variable low region.step) region.name (items.events first) scalars go) number memory.words)

@@ -5,4 +5,4 @@ pub mod Nest
 pub mod Outcomes
 pub mod CourseParts
 pub mod Saved
-pub mod Counts
+pub mod Numbered

@@ -1,6 +1,6 @@
 -- The names that a body changes: those that it declares, those that it assigns, and those of its loops' variables.
 use Rattle.std.specs.Prelude.{◌≡◌, ℕ, ℤ, Bool, false, ◌==◌, List, [], ◌∷◌, ◌++◌, map, length}
-use Rattle.std.specs.List.{list_any}
+use Rattle.std.specs.List.{concat, list_any}
 use Rattle.nest_syntax.specs.declared.tree.Arm.{Arm}
 use Rattle.nest_syntax.specs.declared.tree.Loop.{Loop}
 use Rattle.nest_syntax.specs.declared.tree.Stmt.{Stmt}
@@ -8,24 +8,19 @@ use Rattle.nest_syntax.specs.declared.tree.Stmt.TheOpen.{Stmt-F, Arm-F, Loop-F}
 use Rattle.nest_syntax.specs.declared.tree.Stmt.TheFolds.{fold-Stmt, fold-Arm, fold-Loop}
 use Rattle.nest_syntax.specs.Value.{scalar_at}
 
--- the lists, one after another
-abbrev pub joined : List (List ℕ) → List ℕ
-joined [] = []
-joined (names ∷ others) = names ++ joined others
-
 -- one layer of a statement, an arm and a loop, with the names of its parts in their places
 abbrev pub changed_node : Stmt-F (List ℕ) (List ℕ) (List ℕ) → List ℕ
 changed_node (Stmt-F.Declare line name value) = name ∷ []
 changed_node (Stmt-F.Assign line name op value) = name ∷ []
 changed_node (Stmt-F.Write line array place op value) = []
-changed_node (Stmt-F.If arms other) = joined arms ++ joined other
+changed_node (Stmt-F.If arms other) = concat arms ++ concat other
 changed_node (Stmt-F.Loop inner) = inner
 
 abbrev pub changed_arm_node : Arm-F (List ℕ) (List ℕ) (List ℕ) → List ℕ
-changed_arm_node arm = joined arm.body
+changed_arm_node arm = concat arm.body
 
 abbrev pub changed_loop_node : Loop-F (List ℕ) (List ℕ) (List ℕ) → List ℕ
-changed_loop_node l = l.name ∷ joined l.body
+changed_loop_node l = l.name ∷ concat l.body
 
 abbrev pub changed : Stmt → List ℕ
 changed = fold-Stmt (List ℕ) (List ℕ) (List ℕ) changed_node changed_arm_node changed_loop_node
@@ -38,7 +33,7 @@ changed_in_loop = fold-Loop (List ℕ) (List ℕ) (List ℕ) changed_node change
 
 -- the names that a body changes, in the order of its text, as often as they stand there
 abbrev pub names_changed : List Stmt → List ℕ
-names_changed stmts = joined (map changed stmts)
+names_changed stmts = concat (map changed stmts)
 
 abbrev pub is_among : List ℕ → ℕ → Bool
 is_among names name = list_any (λ other. other == name) names

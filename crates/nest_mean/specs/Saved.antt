@@ -1,12 +1,14 @@
 -- Scalars that are put aside and put back.
-use Rattle.std.specs.Prelude.{ℕ, ℤ, List, [], ◌∷◌, map}
+use Rattle.std.specs.Prelude.{◌≡◌, ℕ, ◌<◌, ℤ, true, List, [], ◌∷◌, length}
 use Rattle.nest_syntax.specs.Value.{scalar_at, with_scalar}
+use Rattle.nest_mean.specs.NamesChanged.{is_among}
 
--- the names with their scalars
-abbrev pub saved : List ℤ → List ℕ → List (ℕ × ℤ)
-saved scalars names = map (λ name. (name, scalar_at scalars name)) names
+-- the second scalars with those of these names taken over from the first
+abbrev pub taken_over : List ℕ → List ℤ → List ℤ → List ℤ
+taken_over [] source target = target
+taken_over (name ∷ names) source target = taken_over names source (with_scalar target name (scalar_at source name))
 
--- the scalars with those of a list put back, in its order
-abbrev pub put_back : List (ℕ × ℤ) → List ℤ → List ℤ
-put_back [] scalars = scalars
-put_back (one ∷ others) scalars = put_back others (with_scalar scalars one.0 one.1)
+-- the scalars of these names stand in the saved ones too
+pub record AreSaved (names : List ℕ) (scalars saved : List ℤ) : Type 0 where
+  pub many : length saved ≡ length scalars
+  pub each : (name : ℕ) → name < length saved → is_among names name ≡ true → scalar_at saved name ≡ scalar_at scalars name

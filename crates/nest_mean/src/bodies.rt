@@ -1,20 +1,24 @@
-ghost use Rattle.std.specs.Prelude.{◌≡◌, ◌<◌, ◌^◌, ℕ, ℤ, pos, List, [], ◌∷◌, map, length, FitsSigned, IfOk, false};
+ghost use Rattle.std.specs.Prelude.{◌≡◌, ◌<◌, ℕ, ℤ, pos, List, [], ◌∷◌, map, length, FitsSigned, IfOk, false};
 ghost use Rattle.std.specs.Int.{w64};
+ghost use Rattle.std.specs.List.{concat};
 ghost use Rattle.nest_syntax.specs.declared.tree.Stmt.TheOpen.{Stmt-F};
 ghost use Rattle.nest_syntax.specs.Words.{operation_of, turns, counted, variable};
 ghost use Rattle.nest_syntax.specs.Arrays.{arrays_of, sizes_of, located};
 ghost use Rattle.nest_syntax.specs.Value.{scalar_at, value};
 ghost use Rattle.nest_syntax.specs.Turn.{Turn, inside, writing, sequence, repeat, effect, effect_node, loop_effect, turn_of};
 ghost use Rattle.nest_syntax.specs.Reads.{on_words};
+ghost use Rattle.nest_syntax.specs.Course.{bodies_of};
+ghost use Rattle.nest_syntax.specs.Outcome.{body_at};
 ghost use Rattle.nest_syntax.proofs.Equations.{arm_effect};
-ghost use Rattle.nest_mean.specs.NamesChanged.{names_changed, changed, changed_in_arm, changed_in_loop, joined, is_among};
+ghost use Rattle.nest_mean.specs.NamesChanged.{names_changed, changed, changed_in_arm, changed_in_loop, is_among};
 ghost use Rattle.nest_mean.specs.TurnRun.{ended};
 ghost use Rattle.nest_mean.specs.TurnParts.{Runs, RunsArms, went_on_with, at_line, wrote};
 
-use crate::arrays::array_of;
-use crate::expressions::{eval, is_zero};
+use crate::expressions::{array_of, eval, is_zero};
+use crate::numbered::body_in_regions;
 use crate::values::Scalars;
-use nest_syntax::{Arm, Cause, Decl, Expr, Line, Loop, Op, Stmt};
+use nest_check::Checked;
+use nest_syntax::{Arm, Cause, Expr, Line, Loop, Op, Stmt};
 use word_store::{Words, assign, count_turns, value_in_turn};
 
 /// Why the turn of a body stopped, and the line on which the statement, arm or loop begins that trapped.
@@ -24,41 +28,43 @@ pub struct TurnTrap {
     pub line: Line,
 }
 
-/// Runs one iteration of a body. At a trap the words stand as they were at that moment. Each name that the body
-/// neither declares nor assigns nor has as a loop's variable keeps its scalar; the others stand changed.
-pub fn run_body(
+/// Runs one iteration of the body with this number. At a trap the words stand as they were at that moment. Each name
+/// that the body neither declares nor assigns nor has as a loop's variable keeps its scalar; the others stand changed.
+pub fn run_turn(
+    checked: &Checked,
+    body: u32,
+    scalars: &mut Scalars,
+    words: &mut Words,
+) -> Result<(), TurnTrap>
+    requires there { body < length (bodies_of checked.now) }
+    requires sizes { words.old.sizes ≡ sizes_of (arrays_of checked.now.decls) }
+    ensures turn { on_words (sizes_of (arrays_of checked.now.decls)) (turn_of (arrays_of checked.now.decls) (body_at (bodies_of checked.now) body) scalars.old) words.old.words
+        ≡ ended result words.new.words }
+    ensures sizes { words.new.sizes ≡ words.old.sizes }
+    ensures names { length scalars.new ≡ length scalars.old }
+    ensures others { (name : ℕ) → is_among (names_changed (body_at (bodies_of checked.now) body)) name ≡ false → scalar_at scalars.new name ≡ scalar_at scalars.old name }
+{
+    match body_in_regions(checked.program().regions.as_slice(), body) {
+        Ok(stmts) => run_body(stmts, scalars, words, checked),
+        Err(_) => Ok(()),
+    }
+}
+
+/// Runs one iteration of a body, as `run_turn` does.
+pub(crate) fn run_body(
     body: &[Stmt],
     scalars: &mut Scalars,
     words: &mut Words,
-    decls: &[Decl],
+    checked: &Checked,
 ) -> Result<(), TurnTrap>
-    requires few { length decls.now < 2 ^ 32 }
-    requires sizes { words.old.sizes ≡ sizes_of (arrays_of decls.now) }
-    ensures turn { on_words (sizes_of (arrays_of decls.now)) (turn_of (arrays_of decls.now) body.now scalars.old) words.old.words
+    requires sizes { words.old.sizes ≡ sizes_of (arrays_of checked.now.decls) }
+    ensures turn { on_words (sizes_of (arrays_of checked.now.decls)) (turn_of (arrays_of checked.now.decls) body.now scalars.old) words.old.words
         ≡ ended result words.new.words }
     ensures sizes { words.new.sizes ≡ words.old.sizes }
     ensures names { length scalars.new ≡ length scalars.old }
     ensures others { (name : ℕ) → is_among (names_changed body.now) name ≡ false → scalar_at scalars.new name ≡ scalar_at scalars.old name }
 {
-    run_block(body, scalars, words, decls)
-}
-
-/// Runs the one iteration of a statement, as `run_body` runs that of a body.
-pub(crate) fn run_single(
-    stmt: &Stmt,
-    scalars: &mut Scalars,
-    words: &mut Words,
-    decls: &[Decl],
-) -> Result<(), TurnTrap>
-    requires few { length decls.now < 2 ^ 32 }
-    requires sizes { words.old.sizes ≡ sizes_of (arrays_of decls.now) }
-    ensures turn { on_words (sizes_of (arrays_of decls.now)) (turn_of (arrays_of decls.now) (stmt.now ∷ []) scalars.old) words.old.words
-        ≡ ended result words.new.words }
-    ensures sizes { words.new.sizes ≡ words.old.sizes }
-    ensures names { length scalars.new ≡ length scalars.old }
-    ensures others { (name : ℕ) → is_among (changed stmt.now) name ≡ false → scalar_at scalars.new name ≡ scalar_at scalars.old name }
-{
-    run_stmt(stmt, scalars, words, decls)
+    run_block(body, scalars, words, checked)
 }
 
 #[cycle(turn)]
@@ -66,15 +72,14 @@ fn run_block(
     stmts: &[Stmt],
     scalars: &mut Scalars,
     words: &mut Words,
-    decls: &[Decl],
+    checked: &Checked,
 ) -> Result<(), TurnTrap>
-    requires few { length decls.now < 2 ^ 32 }
-    requires sizes { words.old.sizes ≡ sizes_of (arrays_of decls.now) }
-    ensures { Runs (arrays_of decls.now) (sequence (map (effect (arrays_of decls.now)) stmts.now)) (names_changed stmts.now)
+    requires sizes { words.old.sizes ≡ sizes_of (arrays_of checked.now.decls) }
+    ensures { Runs (arrays_of checked.now.decls) (sequence (map (effect (arrays_of checked.now.decls)) stmts.now)) (names_changed stmts.now)
         result scalars.old words.old scalars.new words.new }
 {
     for stmt in stmts {
-        run_stmt(stmt, scalars, words, decls)?;
+        run_stmt(stmt, scalars, words, checked)?;
     }
     Ok(())
 }
@@ -84,23 +89,22 @@ fn run_stmt(
     stmt: &Stmt,
     scalars: &mut Scalars,
     words: &mut Words,
-    decls: &[Decl],
+    checked: &Checked,
 ) -> Result<(), TurnTrap>
-    requires few { length decls.now < 2 ^ 32 }
-    requires sizes { words.old.sizes ≡ sizes_of (arrays_of decls.now) }
-    ensures { Runs (arrays_of decls.now) (effect (arrays_of decls.now) stmt.now) (changed stmt.now)
+    requires sizes { words.old.sizes ≡ sizes_of (arrays_of checked.now.decls) }
+    ensures { Runs (arrays_of checked.now.decls) (effect (arrays_of checked.now.decls) stmt.now) (changed stmt.now)
         result scalars.old words.old scalars.new words.new }
 {
     match stmt {
         Stmt::Declare { line, name, value } => {
-            change_scalar(*line, *name, Op::Set, value, scalars, words, decls)
+            change_scalar(*line, *name, Op::Set, value, scalars, words, checked)
         }
         Stmt::Assign {
             line,
             name,
             op,
             value,
-        } => change_scalar(*line, *name, *op, value, scalars, words, decls),
+        } => change_scalar(*line, *name, *op, value, scalars, words, checked),
         Stmt::Write {
             line,
             array,
@@ -108,17 +112,17 @@ fn run_stmt(
             op,
             value,
         } => {
-            let at = value_of(place, *line, scalars, words, decls)?;
-            let right = value_of(value, *line, scalars, words, decls)?;
-            write_word(*line, *array, at, *op, right, words, decls)
+            let at = value_of(place, *line, scalars, words, checked)?;
+            let right = value_of(value, *line, scalars, words, checked)?;
+            write_word(*line, *array, at, *op, right, words, checked)
         }
         Stmt::If { arms, other } => {
-            if run_arms(arms.as_slice(), scalars, words, decls)? {
+            if run_arms(arms.as_slice(), scalars, words, checked)? {
                 return Ok(());
             }
-            run_block(other.as_slice(), scalars, words, decls)
+            run_block(other.as_slice(), scalars, words, checked)
         }
-        Stmt::Loop(inner) => run_loop(inner, scalars, words, decls),
+        Stmt::Loop(inner) => run_loop(inner, scalars, words, checked),
     }
 }
 
@@ -128,17 +132,16 @@ fn run_arms(
     arms: &[Arm],
     scalars: &mut Scalars,
     words: &mut Words,
-    decls: &[Decl],
+    checked: &Checked,
 ) -> Result<bool, TurnTrap>
-    requires few { length decls.now < 2 ^ 32 }
-    requires sizes { words.old.sizes ≡ sizes_of (arrays_of decls.now) }
-    ensures { RunsArms (arrays_of decls.now) (map (arm_effect (arrays_of decls.now)) arms.now) (joined (map changed_in_arm arms.now))
+    requires sizes { words.old.sizes ≡ sizes_of (arrays_of checked.now.decls) }
+    ensures { RunsArms (arrays_of checked.now.decls) (map (arm_effect (arrays_of checked.now.decls)) arms.now) (concat (map changed_in_arm arms.now))
         result scalars.old words.old scalars.new words.new }
 {
     for arm in arms {
-        let test = value_of(&arm.test, arm.line, scalars, words, decls)?;
+        let test = value_of(&arm.test, arm.line, scalars, words, checked)?;
         if !is_zero(test) {
-            run_block(arm.body.as_slice(), scalars, words, decls)?;
+            run_block(arm.body.as_slice(), scalars, words, checked)?;
             return Ok(true);
         }
     }
@@ -150,17 +153,16 @@ fn run_loop(
     inner: &Loop,
     scalars: &mut Scalars,
     words: &mut Words,
-    decls: &[Decl],
+    checked: &Checked,
 ) -> Result<(), TurnTrap>
-    requires few { length decls.now < 2 ^ 32 }
-    requires sizes { words.old.sizes ≡ sizes_of (arrays_of decls.now) }
-    ensures { Runs (arrays_of decls.now) (loop_effect (arrays_of decls.now) inner.now) (changed_in_loop inner.now)
+    requires sizes { words.old.sizes ≡ sizes_of (arrays_of checked.now.decls) }
+    ensures { Runs (arrays_of checked.now.decls) (loop_effect (arrays_of checked.now.decls) inner.now) (changed_in_loop inner.now)
         result scalars.old words.old scalars.new words.new }
 {
-    let low = value_of(&inner.low, inner.line, scalars, words, decls)?;
-    let high = value_of(&inner.high, inner.line, scalars, words, decls)?;
+    let low = value_of(&inner.low, inner.line, scalars, words, checked)?;
+    let high = value_of(&inner.high, inner.line, scalars, words, checked)?;
     match turns_of(low, high, inner.step, inner.through) {
-        Ok(count) => run_turns(inner, low, count, scalars, words, decls),
+        Ok(count) => run_turns(inner, low, count, scalars, words, checked),
         Err(cause) => Err(TurnTrap {
             cause,
             line: inner.line,
@@ -176,18 +178,17 @@ fn run_turns(
     count: u64,
     scalars: &mut Scalars,
     words: &mut Words,
-    decls: &[Decl],
+    checked: &Checked,
 ) -> Result<(), TurnTrap>
-    requires few { length decls.now < 2 ^ 32 }
-    requires sizes { words.old.sizes ≡ sizes_of (arrays_of decls.now) }
+    requires sizes { words.old.sizes ≡ sizes_of (arrays_of checked.now.decls) }
     requires reach { (k : ℕ) → k < count → FitsSigned w64 (variable low inner.now.step k) }
-    ensures { Runs (arrays_of decls.now)
-        (repeat count 0 (variable low inner.now.step) inner.now.name (sequence (map (effect (arrays_of decls.now)) inner.now.body)))
+    ensures { Runs (arrays_of checked.now.decls)
+        (repeat count 0 (variable low inner.now.step) inner.now.name (sequence (map (effect (arrays_of checked.now.decls)) inner.now.body)))
         (changed_in_loop inner.now) result scalars.old words.old scalars.new words.new }
 {
     for k in 0..count {
         scalars.set(inner.name, value_in_turn(low, inner.step, k));
-        run_block(inner.body.as_slice(), scalars, words, decls)?;
+        run_block(inner.body.as_slice(), scalars, words, checked)?;
     }
     Ok(())
 }
@@ -200,14 +201,13 @@ fn change_scalar(
     value: &Expr,
     scalars: &mut Scalars,
     words: &Words,
-    decls: &[Decl],
+    checked: &Checked,
 ) -> Result<(), TurnTrap>
-    requires few { length decls.now < 2 ^ 32 }
-    requires sizes { words.now.sizes ≡ sizes_of (arrays_of decls.now) }
-    ensures { Runs (arrays_of decls.now) (effect_node (arrays_of decls.now) (Stmt-F.Assign line name op value.now)) (name ∷ [])
+    requires sizes { words.now.sizes ≡ sizes_of (arrays_of checked.now.decls) }
+    ensures { Runs (arrays_of checked.now.decls) (effect_node (arrays_of checked.now.decls) (Stmt-F.Assign line name op value.now)) (name ∷ [])
         result scalars.old words.now scalars.new words.now }
 {
-    let right = value_of(value, line, scalars, words, decls)?;
+    let right = value_of(value, line, scalars, words, checked)?;
     match assign(op, scalars.get(name), right) {
         Ok(new) => {
             scalars.set(name, new);
@@ -225,16 +225,15 @@ fn write_word(
     op: Op,
     right: i64,
     words: &mut Words,
-    decls: &[Decl],
+    checked: &Checked,
 ) -> Result<(), TurnTrap>
-    requires few { length decls.now < 2 ^ 32 }
-    requires sizes { words.old.sizes ≡ sizes_of (arrays_of decls.now) }
-    ensures written { (rest : Turn) → on_words (sizes_of (arrays_of decls.now))
-        (inside line (located (arrays_of decls.now) name at) (λ array n. writing line (operation_of op) array n right rest)) words.old.words
-        ≡ went_on_with (sizes_of (arrays_of decls.now)) result (λ done. rest) words.new.words }
+    requires sizes { words.old.sizes ≡ sizes_of (arrays_of checked.now.decls) }
+    ensures written { (rest : Turn) → on_words (sizes_of (arrays_of checked.now.decls))
+        (inside line (located (arrays_of checked.now.decls) name at) (λ array n. writing line (operation_of op) array n right rest)) words.old.words
+        ≡ went_on_with (sizes_of (arrays_of checked.now.decls)) result (λ done. rest) words.new.words }
     ensures sizes { words.new.sizes ≡ words.old.sizes }
 {
-    match change_word(name, at, op, right, words, decls) {
+    match change_word(name, at, op, right, words, checked) {
         Ok(()) => Ok(()),
         Err(cause) => Err(TurnTrap { cause, line }),
     }
@@ -247,16 +246,15 @@ fn change_word(
     op: Op,
     right: i64,
     words: &mut Words,
-    decls: &[Decl],
+    checked: &Checked,
 ) -> Result<(), Cause>
-    requires few { length decls.now < 2 ^ 32 }
-    requires sizes { words.old.sizes ≡ sizes_of (arrays_of decls.now) }
-    ensures written { (line : Line) (rest : Turn) → on_words (sizes_of (arrays_of decls.now))
-        (inside line (located (arrays_of decls.now) name at) (λ array n. writing line (operation_of op) array n right rest)) words.old.words
-        ≡ wrote (sizes_of (arrays_of decls.now)) line result rest words.new.words }
+    requires sizes { words.old.sizes ≡ sizes_of (arrays_of checked.now.decls) }
+    ensures written { (line : Line) (rest : Turn) → on_words (sizes_of (arrays_of checked.now.decls))
+        (inside line (located (arrays_of checked.now.decls) name at) (λ array n. writing line (operation_of op) array n right rest)) words.old.words
+        ≡ wrote (sizes_of (arrays_of checked.now.decls)) line result rest words.new.words }
     ensures sizes { words.new.sizes ≡ words.old.sizes }
 {
-    let array = array_of(decls, name).ok_or(Cause::Index)?;
+    let array = array_of(name, checked).ok_or(Cause::Index)?;
     let old = words.load(array, at).ok_or(Cause::Index)?;
     let new = assign(op, old, right)?;
     let _ = words.store(array, at, new);
@@ -269,13 +267,12 @@ fn value_of(
     line: Line,
     scalars: &Scalars,
     words: &Words,
-    decls: &[Decl],
+    checked: &Checked,
 ) -> Result<i64, TurnTrap>
-    requires few { length decls.now < 2 ^ 32 }
-    requires sizes { words.now.sizes ≡ sizes_of (arrays_of decls.now) }
-    ensures { result ≡ at_line line (value (arrays_of decls.now) scalars.now words.now.words expr.now) }
+    requires sizes { words.now.sizes ≡ sizes_of (arrays_of checked.now.decls) }
+    ensures { result ≡ at_line line (value (arrays_of checked.now.decls) scalars.now words.now.words expr.now) }
 {
-    match eval(expr, scalars, words, decls) {
+    match eval(expr, scalars, words, checked) {
         Ok(value) => Ok(value),
         Err(cause) => Err(TurnTrap { cause, line }),
     }

@@ -1,4 +1,4 @@
-ghost use Rattle.std.specs.Prelude.{◌≡◌, ◌<◌, ◌≤◌, ◌^◌, ℕ, [], ◌∷◌, length, IfOk, FitsSigned};
+ghost use Rattle.std.specs.Prelude.{◌≡◌, ◌<◌, ◌≤◌, ℕ, [], ◌∷◌, length, IfOk, FitsSigned};
 ghost use Rattle.std.specs.List.{list_any};
 ghost use Rattle.std.specs.Int.{w64};
 ghost use Rattle.nest_syntax.specs.Words.{variable};
@@ -8,7 +8,9 @@ ghost use Rattle.nest_mean.specs.CourseParts.{event_words, header, with_result, 
 
 use crate::bodies::turns_of;
 use crate::expressions::eval;
+use crate::run_scalars::RunScalars;
 use crate::values::Scalars;
+use nest_check::Checked;
 use nest_syntax::{Cause, Decl, Expr, Loop, Op};
 use word_store::{Words, assign};
 
@@ -19,18 +21,17 @@ pub(crate) fn scheduled(
     scalars: &Scalars,
     words: &Words,
     opening: &Words,
-    decls: &[Decl],
+    checked: &Checked,
 ) -> Result<i64, Cause>
-    requires few { length decls.now < 2 ^ 32 }
-    requires sizes { words.now.sizes ≡ sizes_of (arrays_of decls.now) }
-    requires opening { opening.now.sizes ≡ sizes_of (arrays_of decls.now) }
-    ensures { result ≡ value (arrays_of decls.now) scalars.now
-        (event_words (arrays_of decls.now) (expr.now ∷ []) words.now.words opening.now.words) expr.now }
+    requires sizes { words.now.sizes ≡ sizes_of (arrays_of checked.now.decls) }
+    requires opening { opening.now.sizes ≡ sizes_of (arrays_of checked.now.decls) }
+    ensures { result ≡ value (arrays_of checked.now.decls) scalars.now
+        (event_words (arrays_of checked.now.decls) (expr.now ∷ []) words.now.words opening.now.words) expr.now }
 {
-    if names_written(expr, decls) {
-        eval(expr, scalars, words, decls)
+    if names_written(expr, checked) {
+        eval(expr, scalars, words, checked)
     } else {
-        eval(expr, scalars, opening, decls)
+        eval(expr, scalars, opening, checked)
     }
 }
 
@@ -40,45 +41,43 @@ pub(crate) fn scheduled_header(
     scalars: &Scalars,
     words: &Words,
     opening: &Words,
-    decls: &[Decl],
+    checked: &Checked,
 ) -> Result<(i64, u64), Cause>
-    requires few { length decls.now < 2 ^ 32 }
-    requires sizes { words.now.sizes ≡ sizes_of (arrays_of decls.now) }
-    requires opening { opening.now.sizes ≡ sizes_of (arrays_of decls.now) }
-    ensures value { result ≡ header (arrays_of decls.now) headed.now scalars.now
-        (event_words (arrays_of decls.now) (headed.now.low ∷ headed.now.high ∷ []) words.now.words opening.now.words) }
+    requires sizes { words.now.sizes ≡ sizes_of (arrays_of checked.now.decls) }
+    requires opening { opening.now.sizes ≡ sizes_of (arrays_of checked.now.decls) }
+    ensures value { result ≡ header (arrays_of checked.now.decls) headed.now scalars.now
+        (event_words (arrays_of checked.now.decls) (headed.now.low ∷ headed.now.high ∷ []) words.now.words opening.now.words) }
     ensures reach { IfOk result (λ b. (k : ℕ) → k < b.1 → FitsSigned w64 (variable b.0 headed.now.step k)) }
     ensures count { IfOk result (λ b. b.1 ≤ 16777216) }
 {
-    if has_drain(headed, decls) {
-        header_on(headed, scalars, words, decls)
+    if has_drain(headed, checked) {
+        header_on(headed, scalars, words, checked)
     } else {
-        header_on(headed, scalars, opening, decls)
+        header_on(headed, scalars, opening, checked)
     }
 }
 
 // Whether a bound names a written array.
 #[tactic(auto, using(crate::proofs::Scan::either_of_two))]
-fn has_drain(headed: &Loop, decls: &[Decl]) -> bool
-    ensures { result ≡ list_any (names_written (arrays_of decls.now)) (headed.now.low ∷ headed.now.high ∷ []) }
+fn has_drain(headed: &Loop, checked: &Checked) -> bool
+    ensures { result ≡ list_any (names_written (arrays_of checked.now.decls)) (headed.now.low ∷ headed.now.high ∷ []) }
 {
-    names_written(&headed.low, decls) || names_written(&headed.high, decls)
+    names_written(&headed.low, checked) || names_written(&headed.high, checked)
 }
 
 fn header_on(
     headed: &Loop,
     scalars: &Scalars,
     words: &Words,
-    decls: &[Decl],
+    checked: &Checked,
 ) -> Result<(i64, u64), Cause>
-    requires few { length decls.now < 2 ^ 32 }
-    requires sizes { words.now.sizes ≡ sizes_of (arrays_of decls.now) }
-    ensures value { result ≡ header (arrays_of decls.now) headed.now scalars.now words.now.words }
+    requires sizes { words.now.sizes ≡ sizes_of (arrays_of checked.now.decls) }
+    ensures value { result ≡ header (arrays_of checked.now.decls) headed.now scalars.now words.now.words }
     ensures reach { IfOk result (λ b. (k : ℕ) → k < b.1 → FitsSigned w64 (variable b.0 headed.now.step k)) }
     ensures count { IfOk result (λ b. b.1 ≤ 16777216) }
 {
-    let low = eval(&headed.low, scalars, words, decls)?;
-    let high = eval(&headed.high, scalars, words, decls)?;
+    let low = eval(&headed.low, scalars, words, checked)?;
+    let high = eval(&headed.high, scalars, words, checked)?;
     let count = turns_of(low, high, headed.step, headed.through)?;
     Ok((low, count))
 }
@@ -88,38 +87,39 @@ pub(crate) fn change_scheduled(
     name: u32,
     op: Op,
     value: &Expr,
-    scalars: &mut Scalars,
+    scalars: &mut RunScalars,
     words: &Words,
     opening: &Words,
-    decls: &[Decl],
+    checked: &Checked,
 ) -> Result<(), Cause>
-    requires few { length decls.now < 2 ^ 32 }
-    requires sizes { words.now.sizes ≡ sizes_of (arrays_of decls.now) }
-    requires opening { opening.now.sizes ≡ sizes_of (arrays_of decls.now) }
-    ensures { with_result result scalars.new ≡ scalars_changed (arrays_of decls.now) name op value.now scalars.old
-        (event_words (arrays_of decls.now) (value.now ∷ []) words.now.words opening.now.words) }
+    requires sizes { words.now.sizes ≡ sizes_of (arrays_of checked.now.decls) }
+    requires opening { opening.now.sizes ≡ sizes_of (arrays_of checked.now.decls) }
+    ensures { with_result result scalars.new ≡ scalars_changed (arrays_of checked.now.decls) name op value.now scalars.old
+        (event_words (arrays_of checked.now.decls) (value.now ∷ []) words.now.words opening.now.words) }
 {
-    let right = scheduled(value, scalars, words, opening, decls)?;
-    let new = assign(op, scalars.get(name), right)?;
+    let present = scalars.present();
+    let right = scheduled(value, present, words, opening, checked)?;
+    let new = assign(op, present.get(name), right)?;
     scalars.set(name, new);
     Ok(())
 }
 
 // Whether an expression names a written array.
-fn names_written(expr: &Expr, decls: &[Decl]) -> bool
-    ensures { result ≡ names_written (arrays_of decls.now) expr.now }
+fn names_written(expr: &Expr, checked: &Checked) -> bool
+    ensures { result ≡ names_written (arrays_of checked.now.decls) expr.now }
 {
     match expr {
         Expr::Number(_) | Expr::Scalar(_) => false,
-        Expr::Word(name, place) => is_written(*name, decls) || names_written(place.get(), decls),
-        Expr::Unary(_, part) => names_written(part.get(), decls),
+        Expr::Word(name, place) => is_written(*name, checked.program().decls.as_slice())
+            || names_written(place.get(), checked),
+        Expr::Unary(_, part) => names_written(part.get(), checked),
         Expr::Binary(_, left, right) => {
-            names_written(left.get(), decls) || names_written(right.get(), decls)
+            names_written(left.get(), checked) || names_written(right.get(), checked)
         }
         Expr::Choice(test, first, second) => {
-            names_written(test.get(), decls)
-                || names_written(first.get(), decls)
-                || names_written(second.get(), decls)
+            names_written(test.get(), checked)
+                || names_written(first.get(), checked)
+                || names_written(second.get(), checked)
         }
     }
 }

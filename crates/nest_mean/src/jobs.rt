@@ -8,7 +8,7 @@ use std::alloc::Global;
 use std::marker::Model;
 use word_store::Words;
 
-/// A checked program with its opening words, which have its layout: what can be run.
+/// A checked program with its opening words: what can be run.
 #[derive(Debug, Drop)]
 pub struct Job {
     checked: Checked,
@@ -31,7 +31,7 @@ impl Model for Job {
 }
 
 impl Job {
-    /// A checked program on its opening words, which have its layout.
+    /// A job of a program and the words of its arrays.
     pub fn new(checked: Checked, words: Words) -> Job
         requires { words.sizes ≡ sizes_of (arrays_of checked.decls) }
         ensures { result ≡ record { program = checked; opening = words } }
@@ -40,7 +40,6 @@ impl Job {
         Job { checked, words }
     }
 
-    /// The program.
     pub fn checked(&self) -> &Checked
         ensures same { result.now ≡ self.now.program }
         ensures runs { CanRun self.now }
@@ -48,7 +47,6 @@ impl Job {
         &self.checked
     }
 
-    /// The opening words.
     pub fn words(&self) -> &Words
         ensures same { result.now ≡ self.now.opening }
         ensures runs { CanRun self.now }

@@ -4,25 +4,23 @@
 //! final words, or the place of the first trap.
 #![tactic(auto)]
 
-mod arrays;
 mod bodies;
 mod courses;
 mod events;
 mod expressions;
 mod iterations;
 mod jobs;
+mod numbered;
 mod outcomes;
 mod plain;
+mod run_scalars;
 mod saved;
-mod stops;
 mod values;
 
-pub use arrays::array_of;
-pub use bodies::{TurnTrap, run_body};
+pub use bodies::{TurnTrap, run_turn};
 pub use expressions::eval;
 pub use jobs::Job;
 pub use nest_syntax::Place;
 pub use outcomes::Outcome;
 pub use plain::run_plain;
 pub use values::Scalars;
-

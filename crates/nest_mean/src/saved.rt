@@ -1,79 +1,57 @@
-ghost use Rattle.std.specs.Prelude.{◌≡◌, ◌++◌, [], ◌∷◌, List, map, OnOk, IfOk};
-ghost use Rattle.nest_mean.specs.NamesChanged.{joined, names_changed, changed, changed_in_arm, changed_in_loop};
-ghost use Rattle.nest_mean.specs.Saved.{saved, put_back};
+ghost use Rattle.std.specs.Prelude.{◌≡◌, [], ◌∷◌, map};
+ghost use Rattle.std.specs.List.{concat};
+ghost use Rattle.nest_mean.specs.NamesChanged.{names_changed, changed, changed_in_arm, changed_in_loop};
+ghost use Rattle.nest_mean.specs.Saved.{taken_over};
 
 use crate::values::Scalars;
-use nest_syntax::{Arm, Loop, NoMemory, Stmt};
-use std::alloc::Global;
+use nest_syntax::{Arm, Loop, Stmt};
 
-/// The scalars that an invocation may change, found once for all its iterations.
-pub(crate) fn saved_scalars(
-    alloc: Global,
-    invoked: &Loop,
-    scalars: &Scalars,
-) -> Result<Vec<(u32, i64)>, NoMemory>
-    ensures { IfOk result (λ kept. kept.items ≡ saved scalars.now (changed_in_loop invoked.now)) }
+/// Takes over from other scalars those of the names that an invocation changes: so they are put aside before it, and
+/// put back behind each of its iterations.
+#[cycle(take)]
+pub(crate) fn take_over_loop(inner: &Loop, source: &Scalars, target: &mut Scalars)
+    ensures { target.new ≡ taken_over (changed_in_loop inner.now) source.now target.old }
 {
-    let mut kept = Vec::new(alloc);
-    save_loop(invoked, scalars, &mut kept)?;
-    Ok(kept)
+    take_over(inner.name, source, target);
+    take_over_block(inner.body.as_slice(), source, target);
 }
 
-pub(crate) fn restore(kept: &[(u32, i64)], scalars: &mut Scalars)
-    ensures { scalars.new ≡ put_back kept.now scalars.old }
+fn take_over(name: u32, source: &Scalars, target: &mut Scalars)
+    ensures { target.new ≡ taken_over (name ∷ []) source.now target.old }
 {
-    for one in kept {
-        scalars.set(one.0, one.1);
-    }
+    target.set(name, source.get(name));
 }
 
-fn save(name: u32, scalars: &Scalars, kept: &mut Vec<(u32, i64)>) -> Result<(), NoMemory>
-    ensures { OnOk result (kept.new.items ≡ kept.old.items ++ saved scalars.now (name ∷ [])) }
-{
-    kept.push((name, scalars.get(name)))?;
-    Ok(())
-}
-
-#[cycle(save)]
-fn save_block(stmts: &[Stmt], scalars: &Scalars, kept: &mut Vec<(u32, i64)>) -> Result<(), NoMemory>
-    ensures { OnOk result (kept.new.items ≡ kept.old.items ++ saved scalars.now (names_changed stmts.now)) }
+#[cycle(take)]
+fn take_over_block(stmts: &[Stmt], source: &Scalars, target: &mut Scalars)
+    ensures { target.new ≡ taken_over (names_changed stmts.now) source.now target.old }
 {
     for stmt in stmts {
-        save_stmt(stmt, scalars, kept)?;
+        take_over_stmt(stmt, source, target);
     }
-    Ok(())
 }
 
-#[cycle(save)]
-fn save_stmt(stmt: &Stmt, scalars: &Scalars, kept: &mut Vec<(u32, i64)>) -> Result<(), NoMemory>
-    ensures { OnOk result (kept.new.items ≡ kept.old.items ++ saved scalars.now (changed stmt.now)) }
+#[cycle(take)]
+fn take_over_stmt(stmt: &Stmt, source: &Scalars, target: &mut Scalars)
+    ensures { target.new ≡ taken_over (changed stmt.now) source.now target.old }
 {
     match stmt {
-        Stmt::Declare { name, .. } => save(*name, scalars, kept),
-        Stmt::Assign { name, .. } => save(*name, scalars, kept),
-        Stmt::Write { .. } => Ok(()),
+        Stmt::Declare { name, .. } => take_over(*name, source, target),
+        Stmt::Assign { name, .. } => take_over(*name, source, target),
+        Stmt::Write { .. } => {}
         Stmt::If { arms, other } => {
-            save_arms(arms.as_slice(), scalars, kept)?;
-            save_block(other.as_slice(), scalars, kept)
+            take_over_arms(arms.as_slice(), source, target);
+            take_over_block(other.as_slice(), source, target);
         }
-        Stmt::Loop(inner) => save_loop(inner, scalars, kept),
+        Stmt::Loop(inner) => take_over_loop(inner, source, target),
     }
 }
 
-#[cycle(save)]
-fn save_arms(arms: &[Arm], scalars: &Scalars, kept: &mut Vec<(u32, i64)>) -> Result<(), NoMemory>
-    ensures { OnOk result (kept.new.items ≡ kept.old.items ++ saved scalars.now (joined (map changed_in_arm arms.now))) }
+#[cycle(take)]
+fn take_over_arms(arms: &[Arm], source: &Scalars, target: &mut Scalars)
+    ensures { target.new ≡ taken_over (concat (map changed_in_arm arms.now)) source.now target.old }
 {
     for arm in arms {
-        save_block(arm.body.as_slice(), scalars, kept)?;
+        take_over_block(arm.body.as_slice(), source, target);
     }
-    Ok(())
-}
-
-#[cycle(save)]
-fn save_loop(inner: &Loop, scalars: &Scalars, kept: &mut Vec<(u32, i64)>) -> Result<(), NoMemory>
-    ensures { OnOk result (kept.new.items ≡ kept.old.items ++ saved scalars.now (changed_in_loop inner.now)) }
-{
-    save(inner.name, scalars, kept)?;
-    save_block(inner.body.as_slice(), scalars, kept)
 }

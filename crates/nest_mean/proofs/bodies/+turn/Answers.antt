@@ -13,8 +13,8 @@ use Rattle.nest_mean.proofs.bodies.+turn.Goals as goal
 pub run_arms-loop-arm-init : goal.run_arms-loop-arm-init
 run_arms-loop-arm-init t c = all_arms_left _ _ _ _
 
-pub run_arms-value_of-requires-clause-sizes : goal.run_arms-value_of-requires-clause-sizes
-run_arms-value_of-requires-clause-sizes t c = ap (λ (m : Memory). m.sizes) c.loop-arm.invariant.memory ∙ c.requires.sizes
+pub run_arms-value_of-requires : goal.run_arms-value_of-requires
+run_arms-value_of-requires t c = record { sizes = ap (λ (m : Memory). m.sizes) c.loop-arm.invariant.memory ∙ c.requires.sizes }
 
 pub run_arms-returns-in_err-test : goal.run_arms-returns-in_err-test
 run_arms-returns-in_err-test t c =
@@ -22,13 +22,13 @@ run_arms-returns-in_err-test t c =
     rw (p.1, p.2) (arm_stops _ _ _ c.loop-arm-test.true c.arm-item.result c.arm-item.is _ _ _ _ _ c.loop-arm.invariant c.in_err-test.ensures)
 
 pub run_arms-run_block-requires : goal.run_arms-run_block-requires
-run_arms-run_block-requires t c = (search (rules, the_lemmas), (c.requires.few, ap (λ (m : Memory). m.sizes) c.loop-arm.invariant.memory ∙ c.requires.sizes))
+run_arms-run_block-requires t c = (search (rules, the_lemmas), ap (λ (m : Memory). m.sizes) c.loop-arm.invariant.memory ∙ c.requires.sizes)
 
 pub run_block-loop-stmt-init : goal.run_block-loop-stmt-init
 run_block-loop-stmt-init t c = all_left _ _ _ _ _
 
 pub run_block-run_stmt-requires : goal.run_block-run_stmt-requires
-run_block-run_stmt-requires t c = (search (rules, the_lemmas), (c.requires.few, c.loop-stmt.invariant.sizes ∙ c.requires.sizes))
+run_block-run_stmt-requires t c = (search (rules, the_lemmas), c.loop-stmt.invariant.sizes ∙ c.requires.sizes)
 
 pub run_block-returns-in_err-run_stmt : goal.run_block-returns-in_err-run_stmt
 run_block-returns-in_err-run_stmt t c =

@@ -16,16 +16,7 @@ run_items-loop-item-init t c = ahead_begins _ _ _ _ _ _ _
 pub run_items-run_item-requires : goal.run_items-run_item-requires
 run_items-run_item-requires t c = (
   search (rules, the_lemmas),
-  (
-    c.requires.few,
-    (
-      c.loop-item.invariant.sizes ∙ c.requires.sizes,
-      (
-        c.requires.opening,
-        listed_room (arrays_of c.args.decls.now) c.args.opening.now.words (item_of (setting_on c.args.decls.now c.args.opening.now.words)) c.args.items.now 16777216 c.loop-item.item-index c.loop-item-test.true c.item-item.result c.item-item.is _ _ _ _ _ _ c.loop-item.invariant c.requires.room,
-      ),
-    ),
-  ),
+  (c.loop-item.invariant.sizes ∙ c.requires.sizes, (c.requires.opening, listed_room (arrays_of c.args.checked.now.decls) c.args.opening.now.words (item_of (setting_on c.args.checked.now.decls c.args.opening.now.words)) c.args.items.now 16777216 c.loop-item.item-index c.loop-item-test.true c.item-item.result c.item-item.is _ _ _ _ _ _ c.loop-item.invariant c.requires.room)),
 )
 
 pub run_item-run_write-requires-clause-room : goal.run_item-run_write-requires-clause-room
@@ -34,16 +25,7 @@ run_item-run_write-requires-clause-room t c = write_room _ _ _ _ _ _ _ _ (rw c.i
 pub run_item-run_item_arms-requires : goal.run_item-run_item_arms-requires
 run_item-run_item_arms-requires t c = (
   search (rules, the_lemmas),
-  (
-    c.requires.few,
-    (
-      c.requires.sizes,
-      (
-        c.requires.opening,
-        rw c.as_slice.ensures (if_arms_room _ _ c.in-If.arms c.in-If.other c.args.scalars.now c.args.number.now c.args.words.now c.args.scalars.now c.args.number.now c.args.words.now (rw c.in-If.is at c.requires.room)),
-      ),
-    ),
-  ),
+  (c.requires.sizes, (c.requires.opening, rw c.as_slice.ensures (if_arms_room _ _ c.in-If.arms c.in-If.other c.args.scalars.now c.args.number.now c.args.words.now c.args.scalars.now c.args.number.now c.args.words.now (rw c.in-If.is at c.requires.room)))),
 )
 
 pub run_item-returns-in_err-run_item_arms-in-If : goal.run_item-returns-in_err-run_item_arms-in-If
@@ -57,16 +39,7 @@ run_item-returns-then-branch t c = rw c.in-If.is (if_is_taken _ _ _ _ _ _ _ _ _ 
 pub run_item-run_items-requires : goal.run_item-run_items-requires
 run_item-run_items-requires t c = (
   search (rules, the_lemmas),
-  (
-    c.requires.few,
-    (
-      c.run_item_arms.ensures.sizes ∙ c.requires.sizes,
-      (
-        c.requires.opening,
-        rw c.as_slice-in-If.ensures (if_other_room _ _ _ _ _ _ _ _ _ _ (rw c.in-If.is at c.requires.room) _ (rw c.as_slice.ensures at c.run_item_arms.ensures)),
-      ),
-    ),
-  ),
+  (c.run_item_arms.ensures.sizes ∙ c.requires.sizes, (c.requires.opening, rw c.as_slice-in-If.ensures (if_other_room _ _ _ _ _ _ _ _ _ _ (rw c.in-If.is at c.requires.room) _ (rw c.as_slice.ensures at c.run_item_arms.ensures)))),
 )
 
 pub run_item-run_invocation-requires-clause-room : goal.run_item-run_invocation-requires-clause-room
@@ -92,13 +65,13 @@ run_item-returns-in-Loop t c = rw c.in-Loop.is (item_invokes _ _ _ _ _ _ _ _ _ _
 pub run_items-returns-in_err-run_item : goal.run_items-returns-in_err-run_item
 run_items-returns-in_err-run_item t c =
     let p = err_from_is_err_and c.from_residual.result c.from_residual.ensures.1 in
-    rw (p.1, p.2) (listed_ends (arrays_of c.args.decls.now) c.args.opening.now.words (item_of (setting_on c.args.decls.now c.args.opening.now.words)) c.args.items.now 16777216 c.loop-item.item-index c.loop-item-test.true c.item-item.result c.item-item.is _ _ _ _ _ _ c.loop-item.invariant _ _ _ _ c.in_err-run_item.ensures)
+    rw (p.1, p.2) (listed_ends (arrays_of c.args.checked.now.decls) c.args.opening.now.words (item_of (setting_on c.args.checked.now.decls c.args.opening.now.words)) c.args.items.now 16777216 c.loop-item.item-index c.loop-item-test.true c.item-item.result c.item-item.is _ _ _ _ _ _ c.loop-item.invariant _ _ _ _ c.in_err-run_item.ensures)
 
 pub run_items-loop-item-preserved : goal.run_items-loop-item-preserved
-run_items-loop-item-preserved t c = listed_passes (arrays_of c.args.decls.now) c.args.opening.now.words (item_of (setting_on c.args.decls.now c.args.opening.now.words)) c.args.items.now 16777216 c.loop-item.item-index c.loop-item-test.true c.item-item.result c.item-item.is _ _ _ _ _ _ c.loop-item.invariant _ _ _ c.in_ok-run_item.ensures
+run_items-loop-item-preserved t c = listed_passes (arrays_of c.args.checked.now.decls) c.args.opening.now.words (item_of (setting_on c.args.checked.now.decls c.args.opening.now.words)) c.args.items.now 16777216 c.loop-item.item-index c.loop-item-test.true c.item-item.result c.item-item.is _ _ _ _ _ _ c.loop-item.invariant _ _ _ c.in_ok-run_item.ensures
 
 pub run_items-returns : goal.run_items-returns
-run_items-returns t c = listed_over (arrays_of c.args.decls.now) c.args.opening.now.words (item_of (setting_on c.args.decls.now c.args.opening.now.words)) c.args.items.now 16777216 c.loop-item.item-index c.loop-item-test.false _ _ _ _ _ _ c.loop-item.invariant
+run_items-returns t c = listed_over (arrays_of c.args.checked.now.decls) c.args.opening.now.words (item_of (setting_on c.args.checked.now.decls c.args.opening.now.words)) c.args.items.now 16777216 c.loop-item.item-index c.loop-item-test.false _ _ _ _ _ _ c.loop-item.invariant
 
 pub run_item_arms-loop-arm-init : goal.run_item_arms-loop-arm-init
 run_item_arms-loop-arm-init t c = arms_begin _ _ _ _ _ _
@@ -106,16 +79,7 @@ run_item_arms-loop-arm-init t c = arms_begin _ _ _ _ _ _
 pub run_item_arms-run_items-requires : goal.run_item_arms-run_items-requires
 run_item_arms-run_items-requires t c = (
   search (rules, the_lemmas),
-  (
-    c.requires.few,
-    (
-      ap (λ (m : Memory). m.sizes) c.loop-arm.invariant.memory ∙ c.requires.sizes,
-      (
-        c.requires.opening,
-        rw c.as_slice.ensures (arm_room _ _ _ _ _ _ _ c.loop-arm-test.true c.arm-item.result c.arm-item.is _ _ _ c.loop-arm.invariant c.requires.room),
-      ),
-    ),
-  ),
+  (ap (λ (m : Memory). m.sizes) c.loop-arm.invariant.memory ∙ c.requires.sizes, (c.requires.opening, rw c.as_slice.ensures (arm_room _ _ _ _ _ _ _ c.loop-arm-test.true c.arm-item.result c.arm-item.is _ _ _ c.loop-arm.invariant c.requires.room))),
 )
 
 pub run_item_arms-returns-in_err-run_items-in-Ok : goal.run_item_arms-returns-in_err-run_items-in-Ok
@@ -123,22 +87,22 @@ run_item_arms-returns-in_err-run_items-in-Ok t c =
     let test : to_z w64 (of_z w64 c.in-Ok.test) ≡ c.in-Ok.test = to_z-of_z w64 c.in-Ok.test (search rules) in
     let not_zero : is_zero c.in-Ok.test ≡ false = ap is_zero (sym test) ∙ sym c.is_zero.ensures ∙ c.if-not-is_zero.true in
     let p = err_from_is_err_and c.from_residual.result c.from_residual.ensures.1 in
-    rw (p.1, p.2) (arm_ends _ _ _ _ _ _ _ c.loop-arm-test.true c.arm-item.result c.arm-item.is _ _ _ c.loop-arm.invariant c.in-Ok.test (sym c.in-Ok.is ∙ c.scheduled.ensures) not_zero _ _ _ _ (rw c.as_slice.ensures at c.in_err-run_items-in-Ok.ensures))
+    rw (p.1, p.2) (arm_ends _ _ _ _ _ _ _ c.loop-arm-test.true c.arm-item.result c.arm-item.is _ _ _ c.loop-arm.invariant c.in-Ok.test (sym c.in-Ok.is ∙ (rw c.present.ensures at c.scheduled.ensures)) not_zero _ _ _ _ (rw c.as_slice.ensures at c.in_err-run_items-in-Ok.ensures))
 
 pub run_item_arms-returns-then-not-is_zero : goal.run_item_arms-returns-then-not-is_zero
 run_item_arms-returns-then-not-is_zero t c =
     let test : to_z w64 (of_z w64 c.in-Ok.test) ≡ c.in-Ok.test = to_z-of_z w64 c.in-Ok.test (search rules) in
     let not_zero : is_zero c.in-Ok.test ≡ false = ap is_zero (sym test) ∙ sym c.is_zero.ensures ∙ c.if-not-is_zero.true in
-    arm_is_taken _ _ _ _ _ _ _ c.loop-arm-test.true c.arm-item.result c.arm-item.is _ _ _ c.loop-arm.invariant c.in-Ok.test (sym c.in-Ok.is ∙ c.scheduled.ensures) not_zero _ _ _ (rw c.as_slice.ensures at c.in_ok-run_items-in-Ok.ensures)
+    arm_is_taken _ _ _ _ _ _ _ c.loop-arm-test.true c.arm-item.result c.arm-item.is _ _ _ c.loop-arm.invariant c.in-Ok.test (sym c.in-Ok.is ∙ (rw c.present.ensures at c.scheduled.ensures)) not_zero _ _ _ (rw c.as_slice.ensures at c.in_ok-run_items-in-Ok.ensures)
 
 pub run_item_arms-returns-in-Err : goal.run_item_arms-returns-in-Err
-run_item_arms-returns-in-Err t c = rw c.scheduler_trap.ensures (arm_fails _ _ _ _ _ _ _ c.loop-arm-test.true c.arm-item.result c.arm-item.is _ _ _ c.loop-arm.invariant c.in-Err.cause (sym c.in-Err.is ∙ c.scheduled.ensures))
+run_item_arms-returns-in-Err t c = rw c.scheduler_trap.ensures (arm_fails _ _ _ _ _ _ _ c.loop-arm-test.true c.arm-item.result c.arm-item.is _ _ _ c.loop-arm.invariant c.in-Err.cause (sym c.in-Err.is ∙ (rw c.present.ensures at c.scheduled.ensures)))
 
 pub run_item_arms-loop-arm-preserved : goal.run_item_arms-loop-arm-preserved
 run_item_arms-loop-arm-preserved t c =
     let test : to_z w64 (of_z w64 c.in-Ok.test) ≡ c.in-Ok.test = to_z-of_z w64 c.in-Ok.test (search rules) in
     let zero : is_zero c.in-Ok.test ≡ true = ap is_zero (sym test) ∙ sym c.is_zero.ensures ∙ c.if-not-is_zero.false in
-    arm_is_passed _ _ _ _ _ _ _ c.loop-arm-test.true c.arm-item.result c.arm-item.is _ _ _ c.loop-arm.invariant c.in-Ok.test (sym c.in-Ok.is ∙ c.scheduled.ensures) zero
+    arm_is_passed _ _ _ _ _ _ _ c.loop-arm-test.true c.arm-item.result c.arm-item.is _ _ _ c.loop-arm.invariant c.in-Ok.test (sym c.in-Ok.is ∙ (rw c.present.ensures at c.scheduled.ensures)) zero
 
 pub run_item_arms-returns : goal.run_item_arms-returns
 run_item_arms-returns t c = arms_over _ _ _ _ _ _ _ _ _ _ c.loop-arm-test.false c.loop-arm.invariant

@@ -13,15 +13,15 @@ pub run_region-requires-clause-sizes : goal.run_region-requires-clause-sizes
 run_region-requires-clause-sizes c = c.loop-region.invariant.sizes ∙ c.requires.sizes
 
 pub run_region-requires-clause-room : goal.run_region-requires-clause-room
-run_region-requires-clause-room c = listed_room (arrays_of c.args.decls.now) c.args.opening.now.words (region_of (setting_on c.args.decls.now c.args.opening.now.words)) c.args.regions.now 281474976710656 c.loop-region.region-index c.loop-region-test.true c.region-item.result c.region-item.is _ _ _ _ _ _ c.loop-region.invariant c.requires.room
+run_region-requires-clause-room c = listed_room (arrays_of c.args.checked.now.decls) c.args.opening.now.words (region_of (setting_on c.args.checked.now.decls c.args.opening.now.words)) c.args.regions.now 281474976710656 c.loop-region.region-index c.loop-region-test.true c.region-item.result c.region-item.is _ _ _ _ _ _ c.loop-region.invariant c.requires.room
 
 pub returns-in_err-run_region : goal.returns-in_err-run_region
 returns-in_err-run_region c =
     let p = err_from_is_err_and c.from_residual.result c.from_residual.ensures.1 in
-    rw (p.1, p.2) (listed_ends (arrays_of c.args.decls.now) c.args.opening.now.words (region_of (setting_on c.args.decls.now c.args.opening.now.words)) c.args.regions.now 281474976710656 c.loop-region.region-index c.loop-region-test.true c.region-item.result c.region-item.is _ _ _ _ _ _ c.loop-region.invariant _ _ _ _ c.in_err-run_region.ensures)
+    rw (p.1, p.2) (listed_ends (arrays_of c.args.checked.now.decls) c.args.opening.now.words (region_of (setting_on c.args.checked.now.decls c.args.opening.now.words)) c.args.regions.now 281474976710656 c.loop-region.region-index c.loop-region-test.true c.region-item.result c.region-item.is _ _ _ _ _ _ c.loop-region.invariant _ _ _ _ c.in_err-run_region.ensures)
 
 pub loop-region-preserved : goal.loop-region-preserved
-loop-region-preserved c = listed_passes (arrays_of c.args.decls.now) c.args.opening.now.words (region_of (setting_on c.args.decls.now c.args.opening.now.words)) c.args.regions.now 281474976710656 c.loop-region.region-index c.loop-region-test.true c.region-item.result c.region-item.is _ _ _ _ _ _ c.loop-region.invariant _ _ _ c.in_ok-run_region.ensures
+loop-region-preserved c = listed_passes (arrays_of c.args.checked.now.decls) c.args.opening.now.words (region_of (setting_on c.args.checked.now.decls c.args.opening.now.words)) c.args.regions.now 281474976710656 c.loop-region.region-index c.loop-region-test.true c.region-item.result c.region-item.is _ _ _ _ _ _ c.loop-region.invariant _ _ _ c.in_ok-run_region.ensures
 
 pub returns : goal.returns
-returns c = listed_over (arrays_of c.args.decls.now) c.args.opening.now.words (region_of (setting_on c.args.decls.now c.args.opening.now.words)) c.args.regions.now 281474976710656 c.loop-region.region-index c.loop-region-test.false _ _ _ _ _ _ c.loop-region.invariant
+returns c = listed_over (arrays_of c.args.checked.now.decls) c.args.opening.now.words (region_of (setting_on c.args.checked.now.decls c.args.opening.now.words)) c.args.regions.now 281474976710656 c.loop-region.region-index c.loop-region-test.false _ _ _ _ _ _ c.loop-region.invariant

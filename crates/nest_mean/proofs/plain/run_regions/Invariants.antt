@@ -7,5 +7,5 @@ use Rattle.nest_mean.proofs.plain.run_regions.Given as goal
 
 abbrev pub invariant-loop-region : goal.invariant-loop-region
 invariant-loop-region l =
-    IsAhead (arrays_of l.decls) l.opening.words (in_order (map (region_of (setting_on l.decls l.opening.words)) l.regions)) (in_order (map (region_of (setting_on l.decls l.opening.words)) (drop l.region-index l.regions))) 281474976710656
+    IsAhead (arrays_of l.checked.decls) l.opening.words (in_order (map (region_of (setting_on l.checked.decls l.opening.words)) l.regions)) (in_order (map (region_of (setting_on l.checked.decls l.opening.words)) (drop l.region-index l.regions))) 281474976710656
     l.fn.scalars l.fn.number l.fn.words l.scalars l.number l.words
