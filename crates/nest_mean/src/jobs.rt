@@ -31,7 +31,7 @@ impl Model for Job {
 }
 
 impl Job {
-    /// A job of a program and the words of its arrays.
+    /// A job of a program and the words of its arrays, which have its layout.
     pub fn new(checked: Checked, words: Words) -> Job
         requires { words.sizes ≡ sizes_of (arrays_of checked.decls) }
         ensures { result ≡ record { program = checked; opening = words } }
@@ -40,6 +40,7 @@ impl Job {
         Job { checked, words }
     }
 
+    /// The program.
     pub fn checked(&self) -> &Checked
         ensures same { result.now ≡ self.now.program }
         ensures runs { CanRun self.now }
@@ -47,6 +48,7 @@ impl Job {
         &self.checked
     }
 
+    /// The opening words, over all arrays in order of declaration.
     pub fn words(&self) -> &Words
         ensures same { result.now ≡ self.now.opening }
         ensures runs { CanRun self.now }
