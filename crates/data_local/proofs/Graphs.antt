@@ -9,10 +9,10 @@ use Rattle.nest_syntax.specs.declared.tree.Stmt.{Stmt}
 use Rattle.nest_syntax.specs.Arrays.{Array}
 use Rattle.nest_syntax.specs.Value.{names_written}
 use Rattle.graph_reach.specs.declared.Edge.{Edge}
-use Rattle.graph_reach.specs.Reached.{is_edge, IsReached, start, along}
+use Rattle.graph_reach.specs.Reached.{is_among, is_edge, IsReached, start, along}
 use Rattle.data_local.specs.declared.rows.Row.{Row}
 use Rattle.data_local.specs.declared.rows.Row.TheVariants as row
-use Rattle.data_local.specs.Names.{scalars_in, is_among}
+use Rattle.data_local.specs.Names.{scalars_in}
 use Rattle.data_local.specs.Givings.{Giving, givings}
 use Rattle.data_local.specs.DataLocals.{IsOne, IsGivenData, IsDataLocal, by_array, by_local}
 use Rattle.data_local.specs.Rows.{tests_at, told, IsBuilt, node_of_name, node_of_test, edges_from, edges_to, row_edges, start_of, row_starts}

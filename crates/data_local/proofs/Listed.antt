@@ -1,5 +1,5 @@
 -- From the nodes that are reached to the names of the data locals, and a list of names that is put in order.
-use Rattle.std.proofs.Common.{◌≡◌, ℕ, ◌+◌, ◌<◌, ◌≤◌, ◌==◌, eqb, leb, ◌≢◌, Bool, true, false, ◌||◌, if◌then◌else◌, IsTrue, ◌↔◌, ◌⊎◌, inl, inr, Result, Ok, Err, MatchResult, is_ok, List, [], ◌∷◌, length, reverse, get_or, refl, sym, ap, ◌∙◌, subst, arith, eq-eqb, ne_eqb}
+use Rattle.std.proofs.Common.{◌≡◌, ℕ, ◌<◌, ◌≤◌, ◌==◌, eqb, leb, ◌≢◌, Bool, true, false, ◌||◌, if◌then◌else◌, IsTrue, ◌↔◌, ◌⊎◌, inl, inr, Result, Ok, Err, MatchResult, is_ok, List, [], ◌∷◌, length, reverse, get_or, refl, sym, ap, ◌∙◌, subst, arith, eq-eqb, ne_eqb}
 use Rattle.std.specs.List.{dedup, flat_map}
 use Rattle.std.specs.List.Sorted.{IsBinarySearchResult, IsPermutation, IsStrictlyIncreasing}
 use Rattle.std.specs.Cmp.{nat_eq_equiv}
@@ -15,7 +15,7 @@ use Rattle.nest_syntax.specs.declared.tree.Stmt.{Stmt}
 use Rattle.nest_syntax.specs.Arrays.{Array}
 use Rattle.data_local.specs.declared.rows.Row.{Row}
 use Rattle.data_local.specs.declared.rows.Row.TheVariants as row
-use Rattle.data_local.specs.Names.{is_among}
+use Rattle.graph_reach.specs.Reached.{is_among}
 use Rattle.data_local.specs.Givings.{Giving, givings}
 use Rattle.data_local.specs.DataLocals.{IsOne, IsGivenData, IsDataLocal, by_array, by_local, AreDataLocals}
 use Rattle.data_local.specs.Rows.{tests_at, told, node_of_name, row_names}

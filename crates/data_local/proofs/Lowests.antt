@@ -9,35 +9,30 @@ use Rattle.nest_syntax.specs.declared.tree.Loop.{Loop}
 use Rattle.nest_syntax.specs.declared.tree.Stmt.{Stmt}
 use Rattle.nest_syntax.specs.Arrays.{Array}
 use Rattle.nest_syntax.specs.Value.{names_written}
-use Rattle.lowest_line.specs.Lowest.{lower, lower_of}
-use Rattle.data_local.specs.Names.{scalars_in, is_among}
+use Rattle.lowest_line.proofs.Lists.{lower_of-where}
+use Rattle.lowest_line.specs.Lowest.{lower, lower_of, lines_where, lower_if}
+use Rattle.graph_reach.specs.Reached.{is_among}
+use Rattle.data_local.specs.Names.{scalars_in}
 use Rattle.data_local.specs.DataLocals.{IsOne, IsData, AreDataLocals}
 use Rattle.data_local.specs.Loops.{loops_in}
-use Rattle.data_local.specs.Bounds.{HasDataBoundIn, IsLowest}
-use Rattle.data_local.specs.Breaches.{is_data, has_data_bound, lines_where, lower_if, IsAtMost, Lowers}
+use Rattle.data_local.specs.Bounds.{line_of, HasDataBoundIn, IsLowest}
+use Rattle.data_local.specs.Breaches.{is_data, has_data_bound, IsAtMost, Lowers}
 use Rattle.data_local.proofs.Parts.{either, or_left, or_right, one_left, one_right, one_parts}
 use denote.Ref.{Bor}
 
 -- one more loop
-where_first : (test : Loop → Bool) (l : Loop) (loops : List Loop) (found : Option Line) → lower_of found (lines_where test (l ∷ loops)) ≡ lower_of (lower_if (test l) found l.line) (lines_where test loops)
-where_first test l loops found = by_test (test l)
-  where
-    by_test : (b : Bool) → lower_of found (map (λ (x : Loop). x.line) (if b then l ∷ filter test loops else filter test loops)) ≡ lower_of (if b then lower found l.line else found) (lines_where test loops)
-    by_test true = refl
-    by_test false = refl
-
 pub notes_more : (test : Loop → Bool) (loops : List (Bor Loop)) (i : ℕ) → i < length loops → (here : Bor Loop) → here ≡ get_or loops i here → (breaks : Bool) → breaks ≡ test here.now
-    → (found found' whole : Option Line) → lower_of found (lines_where test (map (λ x. x.now) (drop i loops))) ≡ whole → found' ≡ lower_if breaks found here.now.line
-    → lower_of found' (lines_where test (map (λ x. x.now) (drop (i + 1) loops))) ≡ whole
+    → (found found' whole : Option Line) → lower_of found (lines_where line_of test (map (λ x. x.now) (drop i loops))) ≡ whole → found' ≡ lower_if breaks found here.now.line
+    → lower_of found' (lines_where line_of test (map (λ x. x.now) (drop (i + 1) loops))) ≡ whole
 notes_more test loops i there here is breaks same found found' whole left more =
     let rest : drop i loops ≡ here ∷ drop (i + 1) loops = drop-cons loops i here there ∙ ap (λ x. x ∷ drop (suc i) loops) (sym is) ∙ ap (λ k. here ∷ drop k loops) (sym (add-one i)) in
-    ap (λ f. lower_of f (lines_where test (map (λ (x : Bor Loop). x.now) (drop (i + 1) loops)))) (more ∙ ap (λ b. lower_if b found here.now.line) same)
-    ∙ sym (where_first test here.now (map (λ (x : Bor Loop). x.now) (drop (i + 1) loops)) found)
-    ∙ ap (λ ls. lower_of found (lines_where test (map (λ (x : Bor Loop). x.now) ls))) (sym rest)
+    ap (λ f. lower_of f (lines_where line_of test (map (λ (x : Bor Loop). x.now) (drop (i + 1) loops)))) (more ∙ ap (λ b. lower_if b found here.now.line) same)
+    ∙ lower_of-where line_of test found here.now (map (λ (x : Bor Loop). x.now) (drop (i + 1) loops))
+    ∙ ap (λ ls. lower_of found (lines_where line_of test (map (λ (x : Bor Loop). x.now) ls))) (sym rest)
     ∙ left
 
-pub notes_end : (test : Loop → Bool) (loops : List (Bor Loop)) (i : ℕ) → length loops ≤ i → (found whole : Option Line) → lower_of found (lines_where test (map (λ x. x.now) (drop i loops))) ≡ whole → found ≡ whole
-notes_end test loops i over found whole left = ap (λ ls. lower_of found (lines_where test (map (λ (x : Bor Loop). x.now) ls))) (sym (drop_all i loops over)) ∙ left
+pub notes_end : (test : Loop → Bool) (loops : List (Bor Loop)) (i : ℕ) → length loops ≤ i → (found whole : Option Line) → lower_of found (lines_where line_of test (map (λ x. x.now) (drop i loops))) ≡ whole → found ≡ whole
+notes_end test loops i over found whole left = ap (λ ls. lower_of found (lines_where line_of test (map (λ (x : Bor Loop). x.now) ls))) (sym (drop_all i loops over)) ∙ left
 
 -- the lower of two lines is at most each, and one of them
 lower_new : (found : Option Line) (line : Line) → IsAtMost (lower found line) line
@@ -99,7 +94,7 @@ lowers_by Breaks lines old new into back is = record {
 }
 
 -- the lines of the loops that pass a test, both ways
-one_where : (test : Loop → Bool) (loops : List Loop) (l : Loop) → IsOne loops l → test l ≡ true → IsOne (lines_where test loops) l.line
+one_where : (test : Loop → Bool) (loops : List Loop) (l : Loop) → IsOne loops l → test l ≡ true → IsOne (lines_where line_of test loops) l.line
 one_where test [] l h e = absurd h
 one_where test (first ∷ loops) l (inl same) e = by_test (test first) (ap test (sym same) ∙ e)
   where
@@ -108,15 +103,15 @@ one_where test (first ∷ loops) l (inl same) e = by_test (test first) (ap test 
     by_test false h = absurd cc
 one_where test (first ∷ loops) l (inr later) e = by_test (test first) (one_where test loops l later e)
   where
-    by_test : (b : Bool) → IsOne (lines_where test loops) l.line → IsOne (map (λ (x : Loop). x.line) (if b then first ∷ filter test loops else filter test loops)) l.line
+    by_test : (b : Bool) → IsOne (lines_where line_of test loops) l.line → IsOne (map (λ (x : Loop). x.line) (if b then first ∷ filter test loops else filter test loops)) l.line
     by_test true h = inr h
     by_test false h = h
 
-where_one : (test : Loop → Bool) (loops : List Loop) (line : Line) → IsOne (lines_where test loops) line → (l : Loop) × IsOne loops l × (l.line ≡ line) × (test l ≡ true)
+where_one : (test : Loop → Bool) (loops : List Loop) (line : Line) → IsOne (lines_where line_of test loops) line → (l : Loop) × IsOne loops l × (l.line ≡ line) × (test l ≡ true)
 where_one test [] line h = absurd h
 where_one test (first ∷ loops) line h = by_test (λ later. where_one test loops line later) (test first) refl h
   where
-    by_test : (IsOne (lines_where test loops) line → (l : Loop) × IsOne loops l × (l.line ≡ line) × (test l ≡ true)) → (b : Bool) → test first ≡ b
+    by_test : (IsOne (lines_where line_of test loops) line → (l : Loop) × IsOne loops l × (l.line ≡ line) × (test l ≡ true)) → (b : Bool) → test first ≡ b
         → IsOne (map (λ (x : Loop). x.line) (if b then first ∷ filter test loops else filter test loops)) line → (l : Loop) × IsOne (first ∷ loops) l × (l.line ≡ line) × (test l ≡ true)
     by_test go true e (inl same) = (first, inl refl, sym same, e)
     by_test go true e (inr later) = let at = go later in (at.0, inr at.1, at.2, at.3)
@@ -152,17 +147,17 @@ is_data_of arrays body locals e are (inr local) = or_right (names_written arrays
 
 -- the loops of a body that have a data expression as a bound
 pub body_lowers : (arrays : List Array) (body : List Stmt) (locals : List ℕ) (loops : List Loop) (old new : Option Line) → AreDataLocals arrays body locals → loops ≡ loops_in body
-    → new ≡ lower_of old (lines_where (has_data_bound arrays locals) loops) → Lowers (HasDataBoundIn arrays body) old new
-body_lowers arrays body locals loops old new are all is = lowers_by (HasDataBoundIn arrays body) (lines_where (has_data_bound arrays locals) loops) old new into back is
+    → new ≡ lower_of old (lines_where line_of (has_data_bound arrays locals) loops) → Lowers (HasDataBoundIn arrays body) old new
+body_lowers arrays body locals loops old new are all is = lowers_by (HasDataBoundIn arrays body) (lines_where line_of (has_data_bound arrays locals) loops) old new into back is
   where
     passes : (l : Loop) → IsData arrays body l.low ⊎ IsData arrays body l.high → has_data_bound arrays locals l ≡ true
     passes l (inl low) = or_left (is_data arrays locals l.low) (is_data arrays locals l.high) (is_data_of arrays body locals l.low are low)
     passes l (inr high) = or_right (is_data arrays locals l.low) (is_data arrays locals l.high) (is_data_of arrays body locals l.high are high)
 
-    into : (line : Line) → HasDataBoundIn arrays body line → IsOne (lines_where (has_data_bound arrays locals) loops) line
-    into line h = subst (IsOne (lines_where (has_data_bound arrays locals) loops)) h.2 (one_where (has_data_bound arrays locals) loops h.0 (subst (λ ls. IsOne ls h.0) (sym all) h.1) (passes h.0 h.3))
+    into : (line : Line) → HasDataBoundIn arrays body line → IsOne (lines_where line_of (has_data_bound arrays locals) loops) line
+    into line h = subst (IsOne (lines_where line_of (has_data_bound arrays locals) loops)) h.2 (one_where (has_data_bound arrays locals) loops h.0 (subst (λ ls. IsOne ls h.0) (sym all) h.1) (passes h.0 h.3))
 
-    back : (line : Line) → IsOne (lines_where (has_data_bound arrays locals) loops) line → HasDataBoundIn arrays body line
+    back : (line : Line) → IsOne (lines_where line_of (has_data_bound arrays locals) loops) line → HasDataBoundIn arrays body line
     back line h =
         let at = where_one (has_data_bound arrays locals) loops line h in (
           at.0,

@@ -1,5 +1,5 @@
 -- The two rules on bounds, as the lines that break them.
-use Rattle.std.specs.Prelude.{◌≡◌, ℕ, ◌≤◌, Bool, false, ◌||◌, ◌⊎◌, Option, MatchOption, List, map, filter}
+use Rattle.std.specs.Prelude.{◌≡◌, ℕ, ◌≤◌, Bool, false, ◌||◌, ◌⊎◌, Option, MatchOption, List, map}
 use Rattle.std.specs.List.{list_any}
 use Rattle.nest_syntax.specs.declared.names.Line.{Line}
 use Rattle.nest_syntax.specs.declared.tree.Arm.{Arm}
@@ -9,7 +9,9 @@ use Rattle.nest_syntax.specs.declared.tree.Stmt.TheOpen.{Stmt-F, Arm-F, Loop-F}
 use Rattle.nest_syntax.specs.declared.tree.Stmt.TheFolds.{fold-Stmt, fold-Arm, fold-Loop}
 use Rattle.nest_syntax.specs.declared.tree.Program.{Program}
 use Rattle.nest_syntax.specs.Arrays.{Array, arrays_of}
-use Rattle.data_local.specs.Names.{scalars_in, arrays_in, is_among}
+use Rattle.lowest_line.specs.Lowest.{lines_where}
+use Rattle.graph_reach.specs.Reached.{is_among}
+use Rattle.data_local.specs.Names.{scalars_in, arrays_in}
 use Rattle.data_local.specs.DataLocals.{IsOne, IsData}
 use Rattle.data_local.specs.Loops.{loops_in, loops_of, invocations}
 
@@ -47,9 +49,13 @@ changes_one scalars arrays stmts = list_any (λ s. s) (map (changes scalars arra
 abbrev pub changes_its_bound : Loop → Bool
 changes_its_bound l = is_among (scalars_in l.high) l.name || changes_one (scalars_in l.high) (arrays_in l.high) l.body
 
+-- the line of a loop
+abbrev pub line_of : Loop → Line
+line_of l = l.line
+
 -- the lines of the loops of which that is so: no high bound may change while its loop runs
 abbrev pub lines_of_changed_bounds : Program → List Line
-lines_of_changed_bounds program = map (λ (l : Loop). l.line) (filter changes_its_bound (loops_of program))
+lines_of_changed_bounds program = lines_where line_of changes_its_bound (loops_of program)
 
 -- Whether a line is that of a loop inside a body of which a bound is a data expression.
 abbrev pub HasDataBoundIn : List Array → List Stmt → Line → Type 0

@@ -1,13 +1,13 @@
 -- How the lowest lines are found: what the parts of the search tell of each other.
-use Rattle.std.specs.Prelude.{◌≡◌, ℕ, ◌≤◌, Bool, ◌||◌, ◌⊎◌, if◌then◌else◌, Option, Some, None, List, map, filter}
+use Rattle.std.specs.Prelude.{◌≡◌, ℕ, ◌≤◌, Bool, ◌||◌, ◌⊎◌, Option, Some, None, List}
 use Rattle.std.specs.List.{list_any}
 use Rattle.nest_syntax.specs.declared.names.Line.{Line}
 use Rattle.nest_syntax.specs.declared.tree.Expr.{Expr}
 use Rattle.nest_syntax.specs.declared.tree.Loop.{Loop}
 use Rattle.nest_syntax.specs.Arrays.{Array}
 use Rattle.nest_syntax.specs.Value.{names_written}
-use Rattle.lowest_line.specs.Lowest.{lower}
-use Rattle.data_local.specs.Names.{Named, scalars_in, is_among}
+use Rattle.graph_reach.specs.Reached.{is_among}
+use Rattle.data_local.specs.Names.{Named, scalars_in}
 
 -- that two pairs of lists have the same names
 pub record HasSameNames (named : Named) (scalars arrays : List ℕ) : Type 0 where
@@ -20,14 +20,6 @@ is_data arrays locals e = names_written arrays e || list_any (is_among locals) (
 
 abbrev pub has_data_bound : List Array → List ℕ → Loop → Bool
 has_data_bound arrays locals l = is_data arrays locals l.low || is_data arrays locals l.high
-
--- the lines of the loops that pass a test
-abbrev pub lines_where : (Loop → Bool) → List Loop → List Line
-lines_where test loops = map (λ (l : Loop). l.line) (filter test loops)
-
--- the lower line, where there is one more
-abbrev pub lower_if : Bool → Option Line → Line → Option Line
-lower_if breaks found line = if breaks then lower found line else found
 
 -- that there is a line, not above this one
 abbrev pub IsAtMost : Option Line → Line → Type 0

@@ -1,6 +1,5 @@
 -- The names that an expression names: as scalars, and as arrays, with a subscript.
-use Rattle.std.specs.Prelude.{ℕ, Bool, ◌==◌, List, [], ◌∷◌, ◌++◌}
-use Rattle.std.specs.List.{list_any}
+use Rattle.std.specs.Prelude.{ℕ, List, [], ◌∷◌, ◌++◌}
 use Rattle.nest_syntax.specs.declared.tree.Expr.{Expr}
 use Rattle.nest_syntax.specs.declared.tree.Expr.TheOpen.{Expr-F}
 use Rattle.nest_syntax.specs.declared.tree.Expr.TheFolds.{fold-Expr}
@@ -29,10 +28,6 @@ scalars_in = fold-Expr (List ℕ) scalars_node
 -- the names with a subscript
 abbrev pub arrays_in : Expr → List ℕ
 arrays_in = fold-Expr (List ℕ) arrays_node
-
--- whether a name is one of a list
-abbrev pub is_among : List ℕ → ℕ → Bool
-is_among names name = list_any (λ other. name == other) names
 
 -- lists of names, without a subscript and with one
 pub record Named : Type 0 where

@@ -8,7 +8,8 @@ use Rattle.nest_syntax.specs.Value.{names_written}
 use Rattle.graph_reach.specs.declared.Edge.{Edge}
 use Rattle.data_local.specs.declared.rows.Row.{Row}
 use Rattle.data_local.specs.declared.rows.Row.TheVariants as row
-use Rattle.data_local.specs.Names.{scalars_in, is_among}
+use Rattle.graph_reach.specs.Reached.{is_among}
+use Rattle.data_local.specs.Names.{scalars_in}
 use Rattle.data_local.specs.Givings.{Giving, Given, Tried, by_arms}
 
 -- the test with this number and those that it stands under; 0 is the number of none

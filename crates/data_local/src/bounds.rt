@@ -1,10 +1,10 @@
 ghost use Rattle.std.specs.Prelude.{◌≡◌, ◌||◌, ℕ, List, map, IfOk, OnOk};
 ghost use Rattle.nest_syntax.specs.Arrays.{Array};
-ghost use Rattle.lowest_line.specs.Lowest.{lower_of, lowest};
-ghost use Rattle.data_local.specs.Names.{is_among};
+ghost use Rattle.lowest_line.specs.Lowest.{lower_if, lower_of, lowest, lines_where};
+ghost use Rattle.graph_reach.specs.Reached.{is_among};
 ghost use Rattle.data_local.specs.Written.{TellsWritten};
-ghost use Rattle.data_local.specs.Bounds.{changes, changes_one, changes_one_in_arms, changes_in_loop, changes_its_bound, lines_of_changed_bounds, HasDataBoundIn, HasDataBound, IsLowest};
-ghost use Rattle.data_local.specs.Breaches.{HasSameNames, lines_where, is_data, has_data_bound, lower_if, Lowers};
+ghost use Rattle.data_local.specs.Bounds.{line_of, changes, changes_one, changes_one_in_arms, changes_in_loop, changes_its_bound, lines_of_changed_bounds, HasDataBoundIn, HasDataBound, IsLowest};
+ghost use Rattle.data_local.specs.Breaches.{HasSameNames, is_data, has_data_bound, Lowers};
 
 use crate::locals::{DataLocals, data_locals_of};
 use crate::loops::{invocations, loops_in, loops_of};
@@ -146,7 +146,7 @@ fn note_where_data(
     found: &mut Lowest,
 )
     ensures { (arrays : List Array) → TellsWritten arrays written.now
-        → found.new ≡ lower_of found.old (lines_where (has_data_bound arrays locals.now) (map (λ l. l.now) loops.now)) }
+        → found.new ≡ lower_of found.old (lines_where line_of (has_data_bound arrays locals.now) (map (λ l. l.now) loops.now)) }
 {
     for one in loops {
         note_if(has_data_bound(one, locals, written), one.line, found);

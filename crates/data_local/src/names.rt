@@ -1,5 +1,6 @@
 ghost use Rattle.std.specs.Prelude.{◌≡◌, ◌++◌, ◌==◌, ◌||◌, ◌*◌, ℕ, OnOk, IfOk};
-ghost use Rattle.data_local.specs.Names.{scalars_in, arrays_in, is_among};
+ghost use Rattle.graph_reach.specs.Reached.{is_among};
+ghost use Rattle.data_local.specs.Names.{scalars_in, arrays_in};
 ghost use Rattle.data_local.specs.Rows.{edges_from};
 
 use graph_reach::Edge;

@@ -1,5 +1,6 @@
 -- There are no more bodies than items, and so at most 4,096 of them.
 use Rattle.std.proofs.Common.{◌≡◌, ℕ, suc, ◌*◌, ◌≤◌, Bool, true, false, if◌then◌else◌, List, [], ◌∷◌, ◌++◌, map, length, refl, sym, ap, ◌∙◌, subst, arith, length-append}
+use Rattle.std.specs.List.{flat_map, filter}
 use Rattle.std.proofs.lemmas.Bool.{ltb-false}
 use Rattle.nest_syntax.specs.declared.tree.Arm.{Arm, roll-Arm}
 use Rattle.nest_syntax.specs.declared.tree.Loop.{Loop, roll-Loop, roll-out-Loop, out-Loop}
@@ -9,9 +10,10 @@ use Rattle.nest_syntax.specs.declared.tree.Stmt.TheFolds.{map-Stmt, map-Arm, map
 use Rattle.nest_syntax.specs.declared.tree.Program.{Program}
 use Rattle.nest_syntax.specs.Course.{Setting, Item, Tested, Looped, in_order, chosen, item_node, tested_node, looped_node, item_of, looped_of, region_of, setting_of, bodies_of}
 use Rattle.nest_syntax.proofs.Equations.{tested_of}
-use Rattle.nest_check.specs.Joined.{joined}
+use Rattle.lowest_line.specs.Lowest.{lines_where}
+use Rattle.data_local.specs.Bounds.{line_of}
 use Rattle.nest_check.specs.Entries.{Entry, items, items_in_arm, items_of, items_node, arm_items_node, loop_items_node}
-use Rattle.nest_check.specs.Rules.{has_many_items, large_regions_among}
+use Rattle.nest_check.specs.Rules.{has_many_items}
 use Rattle.nest_check.specs.Kept.{KeepsRules}
 use Rattle.nest_check.proofs.EntryNodes.{items_beside}
 use Rattle.nest_check.proofs.Judged.{few_regions}
@@ -48,13 +50,13 @@ module _ (setting : Setting) where
   items_at stmts = in_order (map (λ (p : Stmt × Item). p.1) (map (λ q. (q, item_of setting q)) stmts))
 
   abbrev entries_at : List Stmt → List Entry
-  entries_at stmts = joined (map (λ (p : Stmt × List Entry). p.1) (map (λ q. (q, items q)) stmts))
+  entries_at stmts = flat_map (λ (p : Stmt × List Entry). p.1) (map (λ q. (q, items q)) stmts)
 
   abbrev arms_at : List Arm → Item → Item
   arms_at arms other = chosen (map (λ (p : Arm × Tested). p.1) (map (λ q. (q, tested_of setting q)) arms)) other
 
   abbrev arm_entries_at : List Arm → List Entry
-  arm_entries_at arms = joined (map (λ (p : Arm × List Entry). p.1) (map (λ q. (q, items_in_arm q)) arms))
+  arm_entries_at arms = flat_map (λ (p : Arm × List Entry). p.1) (map (λ q. (q, items_in_arm q)) arms)
 
   items_few : (stmts : List A_stmt) → length (items_at (map (λ q. q.0) stmts)).bodies ≤ length (entries_at (map (λ q. q.0) stmts))
   items_few [] = omega arith
@@ -112,11 +114,11 @@ module _ (setting : Setting) where
   region_few : (l : Loop) → length (region_of setting l).bodies ≤ length (items_of l.body)
   region_few l = subst (λ es. length (region_of setting l).bodies ≤ length es) (entries_in_loop-is l) (few_looped l).1
 
-  pub regions_few : (regions : List Loop) → large_regions_among regions ≡ [] → length (in_order (map (region_of setting) regions)).bodies ≤ 64 * length regions
+  pub regions_few : (regions : List Loop) → lines_where line_of has_many_items regions ≡ [] → length (in_order (map (region_of setting) regions)).bodies ≤ 64 * length regions
   regions_few [] e = omega arith
   regions_few (l ∷ ls) e = by (has_many_items l) refl e (λ r. regions_few ls r)
     where
-      by : (many : Bool) → has_many_items l ≡ many → (if many then l.line ∷ large_regions_among ls else large_regions_among ls) ≡ [] → (large_regions_among ls ≡ [] → length (in_order (map (region_of setting) ls)).bodies ≤ 64 * length ls)
+      by : (many : Bool) → has_many_items l ≡ many → map line_of (if many then l ∷ filter has_many_items ls else filter has_many_items ls) ≡ [] → (lines_where line_of has_many_items ls ≡ [] → length (in_order (map (region_of setting) ls)).bodies ≤ 64 * length ls)
           → length ((region_of setting l).bodies ++ (in_order (map (region_of setting) ls)).bodies) ≤ 64 * suc (length ls)
       by true is e' rest = absurd (cc)
       by false is e' rest =

@@ -1,7 +1,7 @@
 -- A program that keeps the rules has few declarations: at most 64 arrays, and at most 32 scalars, which are declared once each.
 use Rattle.std.proofs.Common.{◌≡◌, ◌≢◌, ℕ, ◌+◌, ◌<◌, ◌≤◌, ◌==◌, ◌&&◌, ◌||◌, Bool, true, false, if◌then◌else◌, nat_lt, List, [], ◌∷◌, ◌++◌, map, length, refl, sym, ap, ◌∙◌, subst, arith, length-append, ◌⊎◌, inl, inr}
 use Rattle.std.specs.Prelude.{IsTrue}
-use Rattle.std.specs.List.{list_all, filter}
+use Rattle.std.specs.List.{list_all, filter, flat_map}
 use Rattle.std.proofs.lemmas.Bool.{ltb-true}
 use Rattle.std.proofs.lemmas.Bool.Decides.{eqb_tells}
 use Rattle.std.proofs.lemmas.List.{get_or-set_same, get_or-set_other, length-set, length-replicate}
@@ -11,14 +11,15 @@ use Rattle.nest_syntax.specs.declared.tree.Decl.{Decl}
 use Rattle.nest_syntax.specs.declared.tree.Decl.TheVariants as decl
 use Rattle.nest_syntax.specs.declared.tree.Program.{Program}
 use Rattle.nest_syntax.specs.Named.{IsWellNamed, decl_named}
+use Rattle.lowest_line.specs.Lowest.{lines_where}
 use Rattle.nest_scope.specs.declared.occurrences.Binding.{Binding}
 use Rattle.nest_scope.specs.declared.occurrences.Binding.TheVariants as binding
 use Rattle.nest_scope.specs.declared.occurrences.Level.TheVariants as level
 use Rattle.nest_scope.specs.declared.occurrences.Action.TheVariants as action
 use Rattle.nest_scope.specs.declared.occurrences.Occurrence.{Occurrence}
 use Rattle.nest_scope.specs.Occurrences.{Scope, bound, with_bound, array_binding, in_decls, unbound, occurrence}
-use Rattle.nest_scope.specs.Rules.{is_redeclared, redeclares, lines_where}
-use Rattle.nest_check.specs.Joined.{joined, through}
+use Rattle.nest_scope.specs.Rules.{is_redeclared, redeclares, line_of}
+use Rattle.nest_check.specs.Through.{through}
 use Rattle.nest_check.specs.Declarations.{Declaration, has_name, with_declaration, first_of_each}
 use Rattle.nest_check.specs.Entries.{scalars_in, scalars_in_region, scheduler_scalars}
 use Rattle.nest_check.specs.Rules.{array_lines}
@@ -27,10 +28,10 @@ use Rattle.nest_check.proofs.Lists.{through-append}
 use Rattle.nest_check.proofs.Judged.{few_scalars, few_array_lines}
 
 -- an occurrence that redeclares nothing
-none_here : (o : Occurrence) (rest : List Occurrence) → lines_where redeclares (o ∷ rest) ≡ [] → (redeclares o ≡ false) × (lines_where redeclares rest ≡ [])
+none_here : (o : Occurrence) (rest : List Occurrence) → lines_where line_of redeclares (o ∷ rest) ≡ [] → (redeclares o ≡ false) × (lines_where line_of redeclares rest ≡ [])
 none_here o rest e = by (redeclares o) refl e
   where
-    by : (b : Bool) → redeclares o ≡ b → map (λ (o : Occurrence). o.line) (if b then o ∷ filter redeclares rest else filter redeclares rest) ≡ [] → (redeclares o ≡ false) × (lines_where redeclares rest ≡ [])
+    by : (b : Bool) → redeclares o ≡ b → map (λ (o : Occurrence). o.line) (if b then o ∷ filter redeclares rest else filter redeclares rest) ≡ [] → (redeclares o ≡ false) × (lines_where line_of redeclares rest ≡ [])
     by true is e' = absurd (cc)
     by false is e' = (is, e')
 
@@ -87,7 +88,7 @@ bool_false true never = absurd (never refl)
 bool_false false never = refl
 
 -- scalars that are declared once each
-distinct : (decls : List Decl) (scope : Scope) (found : List Declaration) (count : ℕ) → count ≡ length scope → IsTrue (list_all (decl_named count) decls) → AreBound found scope → lines_where redeclares (in_decls decls scope) ≡ []
+distinct : (decls : List Decl) (scope : Scope) (found : List Declaration) (count : ℕ) → count ≡ length scope → IsTrue (list_all (decl_named count) decls) → AreBound found scope → lines_where line_of redeclares (in_decls decls scope) ≡ []
     → length (through with_declaration found (scalars_in decls)) ≡ length found + length (scalars_in decls)
 distinct [] scope found count long named before once = omega arith
 distinct (decl.Array line name size fixed ∷ decls) scope found count long named before once =
@@ -113,7 +114,7 @@ grows found (d ∷ ds) = by (has_name found d.0) (λ next. grows next ds)
     by true rest = rest found
     by false rest = let more = rest (found ++ d ∷ []) in let longer = length-append found (d ∷ []) in omega (arith, more, longer)
 
-first_left : (xs ys : List Occurrence) → lines_where redeclares (xs ++ ys) ≡ [] → lines_where redeclares xs ≡ []
+first_left : (xs ys : List Occurrence) → lines_where line_of redeclares (xs ++ ys) ≡ [] → lines_where line_of redeclares xs ≡ []
 first_left [] ys e = refl
 first_left (o ∷ xs) ys e =
     let here = none_here o (xs ++ ys) e in
@@ -129,7 +130,7 @@ few_decls program named kept =
     let each : length (through with_declaration [] (scalars_in program.decls)) ≡ 0 + length (scalars_in program.decls) =
     distinct program.decls (unbound (length program.names)) [] (length program.names) (sym (length-replicate (length program.names) binding.Unbound)) named.decls (λ name known. absurd (cc)) (first_left (in_decls program.decls (unbound (length program.names))) _ kept.declared_once) in
     let more : length (through with_declaration [] (scalars_in program.decls)) ≤ length (first_of_each (scheduler_scalars program)) =
-    subst (λ ds. length (through with_declaration [] (scalars_in program.decls)) ≤ length ds) (sym (through-append with_declaration [] (scalars_in program.decls) (joined (map scalars_in_region program.regions)))) (grows _ (joined (map scalars_in_region program.regions))) in
+    subst (λ ds. length (through with_declaration [] (scalars_in program.decls)) ≤ length ds) (sym (through-append with_declaration [] (scalars_in program.decls) (flat_map scalars_in_region program.regions))) (grows _ (flat_map scalars_in_region program.regions)) in
     let few : length (first_of_each (scheduler_scalars program)) ≤ 32 = few_scalars program kept in
     let arrays : length (array_lines program.decls) ≤ 64 = few_array_lines program kept in
     let both = split_decls program.decls in

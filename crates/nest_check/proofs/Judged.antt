@@ -7,11 +7,11 @@ use Rattle.nest_syntax.specs.declared.tree.Loop.{Loop}
 use Rattle.nest_syntax.specs.declared.tree.Decl.{Decl}
 use Rattle.nest_syntax.specs.declared.tree.Decl.TheVariants as decl
 use Rattle.lowest_line.proofs.Lists.{lower_of-append}
-use Rattle.lowest_line.specs.Lowest.{lower_of, lowest}
+use Rattle.lowest_line.specs.Lowest.{lower_of, lowest, lines_where}
 use Rattle.data_local.specs.Bounds.{HasDataBound, IsLowest}
 use Rattle.nest_check.specs.Declarations.{Declaration, first_of_each, lines_of, names_of}
 use Rattle.nest_check.specs.Entries.{scheduler_scalars}
-use Rattle.nest_check.specs.Rules.{first_behind, array_lines, region_lines, lines_where, is_deep, parts_of, deep_expressions}
+use Rattle.nest_check.specs.Rules.{first_behind, array_lines, region_lines, part_line, is_deep, parts_of, deep_expressions}
 use Rattle.nest_check.specs.Kept.{KeepsRules}
 use Rattle.nest_check.specs.Broken.{Judged, first_broken, IsBroken}
 use Rattle.nest_check.specs.Tables.{array_names}
@@ -109,7 +109,7 @@ as_many_names (d ∷ ds) = ap suc (as_many_names ds)
 
 pub few_scalars : (program : Program) → KeepsRules program → length (first_of_each (scheduler_scalars program)) ≤ 32
 few_scalars program kept =
-    let few : length (lines_of (first_of_each (scheduler_scalars program))) ≤ 32 = few_behind 32 (lines_of (first_of_each (scheduler_scalars program))) (nil_right (lines_where is_deep (parts_of program)) _ kept.depths) in
+    let few : length (lines_of (first_of_each (scheduler_scalars program))) ≤ 32 = few_behind 32 (lines_of (first_of_each (scheduler_scalars program))) (nil_right (lines_where part_line is_deep (parts_of program)) _ kept.depths) in
     omega (arith, few, as_many_lines (first_of_each (scheduler_scalars program)))
 
 pub few_scalar_names : (program : Program) → KeepsRules program → length (names_of (first_of_each (scheduler_scalars program))) ≤ 32
@@ -128,11 +128,11 @@ behind_kept (suc many) (d ∷ ds) = behind_kept many ds
 pub one_more : (rule : ℕ) (o o' : Option Line) (rules rules' : List Judged) → o ≡ o' → rules ≡ rules' → ((rule, o) ∷ rules) ≡ ((rule, o') ∷ rules')
 one_more rule o o' rules rules' here others = ap (λ x. (rule, x) ∷ rules) here ∙ ap (λ rs. (rule, o') ∷ rs) others
 
-pub deep_is : (program : Program) (result depths : Option Line) (kept : List Declaration) → result ≡ lower_of depths (first_behind 32 (lines_of kept)) → depths ≡ lowest (lines_where is_deep (parts_of program)) → kept ≡ take 33 (first_of_each (scheduler_scalars program))
+pub deep_is : (program : Program) (result depths : Option Line) (kept : List Declaration) → result ≡ lower_of depths (first_behind 32 (lines_of kept)) → depths ≡ lowest (lines_where part_line is_deep (parts_of program)) → kept ≡ take 33 (first_of_each (scheduler_scalars program))
     → result ≡ lowest (deep_expressions program)
 deep_is program result depths kept found expressions scalars =
     found
     ∙ ap (λ ds. lower_of depths (first_behind 32 (lines_of ds))) scalars
     ∙ ap (lower_of depths) (behind_kept 32 (first_of_each (scheduler_scalars program)))
     ∙ ap (λ d. lower_of d (first_behind 32 (lines_of (first_of_each (scheduler_scalars program))))) expressions
-    ∙ sym (lower_of-append None (lines_where is_deep (parts_of program)) (first_behind 32 (lines_of (first_of_each (scheduler_scalars program)))))
+    ∙ sym (lower_of-append None (lines_where part_line is_deep (parts_of program)) (first_behind 32 (lines_of (first_of_each (scheduler_scalars program)))))

@@ -1,16 +1,16 @@
 -- The lowest lines over the declarations that are left.
-use Rattle.std.proofs.Common.{◌≡◌, ◌≢◌, ℕ, zero, suc, ◌+◌, ◌-◌, ◌<◌, ◌≤◌, Bool, true, false, if◌then◌else◌, Option, None, List, [], ◌∷◌, ◌++◌, map, length, take, drop, get_or, refl, sym, ap, ◌∙◌, arith, add-one, drop-cons}
+use Rattle.std.proofs.Common.{◌≡◌, ◌≢◌, ℕ, zero, suc, ◌+◌, ◌-◌, ◌<◌, ◌≤◌, Bool, Option, None, List, [], ◌∷◌, ◌++◌, map, length, take, drop, get_or, refl, sym, ap, ◌∙◌, arith, add-one, drop-cons}
 use Rattle.std.proofs.lemmas.List.{drop_all, drop-map}
 use Rattle.nest_syntax.specs.declared.names.Line.{Line}
 use Rattle.nest_syntax.specs.declared.tree.Decl.{Decl}
 use Rattle.nest_syntax.specs.declared.tree.Decl.TheVariants as decl
-use Rattle.lowest_line.specs.Lowest.{lower, lower_of}
-use Rattle.lowest_line.proofs.Lists.{lower_of-append}
+use Rattle.lowest_line.specs.Lowest.{lower, lower_of, lines_where}
+use Rattle.lowest_line.proofs.Lists.{lower_of-append, lower_of-where}
 use Rattle.nest_check.specs.declared.parts.Breaches.{Breaches}
-use Rattle.nest_check.specs.Joined.{through}
+use Rattle.nest_check.specs.Through.{through}
 use Rattle.nest_check.specs.Parts.{Part}
-use Rattle.nest_check.specs.Noted.{noted, noted_if}
-use Rattle.nest_check.specs.Rules.{part_line, lines_where, has_wrong_step, has_no_level, is_deep, first_behind, array_lines}
+use Rattle.nest_check.specs.Noted.{noted}
+use Rattle.nest_check.specs.Rules.{part_line, has_wrong_step, has_no_level, is_deep, first_behind, array_lines}
 
 -- what is left, where the declaration at a place is known
 pub array_left : {B : Type 0} (f : List Decl → B) (decls : List Decl) (i : ℕ) (none : Decl) (line : Line) (name size : ℕ) (fixed : Bool) → i < length decls → get_or decls i none ≡ decl.Array line name size fixed → f (drop i decls) ≡ f (decl.Array line name size fixed ∷ drop (i + 1) decls)
@@ -18,10 +18,6 @@ array_left f decls i none line name size fixed there is = ap f (drop-cons decls 
 
 pub scalar_left : {B : Type 0} (f : List Decl → B) (decls : List Decl) (i : ℕ) (none : Decl) (line : Line) (name : ℕ) (value : _) → i < length decls → get_or decls i none ≡ decl.Scalar line name value → f (drop i decls) ≡ f (decl.Scalar line name value ∷ drop (i + 1) decls)
 scalar_left f decls i none line name value there is = ap f (drop-cons decls i none there ∙ ap (λ d. d ∷ drop (suc i) decls) is ∙ ap (λ k. decl.Scalar line name value ∷ drop k decls) (sym (add-one i)))
-
-pub noted_line : (breaks : Bool) (found : Option Line) (line : Line) (lines : List Line) → lower_of (noted_if breaks found line) lines ≡ lower_of found (if breaks then line ∷ lines else lines)
-noted_line true found line lines = refl
-noted_line false found line lines = refl
 
 pub none_behind : (many : ℕ) → first_behind many [] ≡ []
 none_behind zero = refl
@@ -54,24 +50,24 @@ pub lowest_of_two : (result first second third : Option Line) (xs ys : List Line
 lowest_of_two result first second third xs ys begins one two ends = ends ∙ two ∙ ap (λ f. lower_of f ys) (one ∙ ap (λ f. lower_of f xs) begins) ∙ sym (lower_of-append None xs ys)
 
 -- what the walk over loops and expressions notes
-pub steps_noted : (found : Breaches) (parts : List Part) → (through noted found parts).steps ≡ lower_of found.steps (lines_where has_wrong_step parts)
+pub steps_noted : (found : Breaches) (parts : List Part) → (through noted found parts).steps ≡ lower_of found.steps (lines_where part_line has_wrong_step parts)
 steps_noted found [] = refl
-steps_noted found (part ∷ parts) = steps_noted (noted found part) parts ∙ noted_line (has_wrong_step part) found.steps (part_line part) (lines_where has_wrong_step parts)
+steps_noted found (part ∷ parts) = steps_noted (noted found part) parts ∙ lower_of-where part_line has_wrong_step found.steps part parts
 
-pub levels_noted : (found : Breaches) (parts : List Part) → (through noted found parts).levels ≡ lower_of found.levels (lines_where has_no_level parts)
+pub levels_noted : (found : Breaches) (parts : List Part) → (through noted found parts).levels ≡ lower_of found.levels (lines_where part_line has_no_level parts)
 levels_noted found [] = refl
-levels_noted found (part ∷ parts) = levels_noted (noted found part) parts ∙ noted_line (has_no_level part) found.levels (part_line part) (lines_where has_no_level parts)
+levels_noted found (part ∷ parts) = levels_noted (noted found part) parts ∙ lower_of-where part_line has_no_level found.levels part parts
 
-pub depths_noted : (found : Breaches) (parts : List Part) → (through noted found parts).depths ≡ lower_of found.depths (lines_where is_deep parts)
+pub depths_noted : (found : Breaches) (parts : List Part) → (through noted found parts).depths ≡ lower_of found.depths (lines_where part_line is_deep parts)
 depths_noted found [] = refl
-depths_noted found (part ∷ parts) = depths_noted (noted found part) parts ∙ noted_line (is_deep part) found.depths (part_line part) (lines_where is_deep parts)
+depths_noted found (part ∷ parts) = depths_noted (noted found part) parts ∙ lower_of-where part_line is_deep found.depths part parts
 
 -- the walk begins with nothing noted
-pub steps_lowest : (found begun : Breaches) (parts : List Part) → found ≡ through noted begun parts → begun.steps ≡ None → found.steps ≡ lower_of None (lines_where has_wrong_step parts)
-steps_lowest found begun parts walked none = ap (λ (b : Breaches). b.steps) walked ∙ steps_noted begun parts ∙ ap (λ f. lower_of f (lines_where has_wrong_step parts)) none
+pub steps_lowest : (found begun : Breaches) (parts : List Part) → found ≡ through noted begun parts → begun.steps ≡ None → found.steps ≡ lower_of None (lines_where part_line has_wrong_step parts)
+steps_lowest found begun parts walked none = ap (λ (b : Breaches). b.steps) walked ∙ steps_noted begun parts ∙ ap (λ f. lower_of f (lines_where part_line has_wrong_step parts)) none
 
-pub levels_lowest : (found begun : Breaches) (parts : List Part) → found ≡ through noted begun parts → begun.levels ≡ None → found.levels ≡ lower_of None (lines_where has_no_level parts)
-levels_lowest found begun parts walked none = ap (λ (b : Breaches). b.levels) walked ∙ levels_noted begun parts ∙ ap (λ f. lower_of f (lines_where has_no_level parts)) none
+pub levels_lowest : (found begun : Breaches) (parts : List Part) → found ≡ through noted begun parts → begun.levels ≡ None → found.levels ≡ lower_of None (lines_where part_line has_no_level parts)
+levels_lowest found begun parts walked none = ap (λ (b : Breaches). b.levels) walked ∙ levels_noted begun parts ∙ ap (λ f. lower_of f (lines_where part_line has_no_level parts)) none
 
-pub depths_lowest : (found begun : Breaches) (parts : List Part) → found ≡ through noted begun parts → begun.depths ≡ None → found.depths ≡ lower_of None (lines_where is_deep parts)
-depths_lowest found begun parts walked none = ap (λ (b : Breaches). b.depths) walked ∙ depths_noted begun parts ∙ ap (λ f. lower_of f (lines_where is_deep parts)) none
+pub depths_lowest : (found begun : Breaches) (parts : List Part) → found ≡ through noted begun parts → begun.depths ≡ None → found.depths ≡ lower_of None (lines_where part_line is_deep parts)
+depths_lowest found begun parts walked none = ap (λ (b : Breaches). b.depths) walked ∙ depths_noted begun parts ∙ ap (λ f. lower_of f (lines_where part_line is_deep parts)) none

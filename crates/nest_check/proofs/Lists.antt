@@ -1,8 +1,8 @@
 -- States that the items of a list change in turn, and what is left of a list.
 use Rattle.std.proofs.Common.{◌≡◌, ℕ, suc, ◌+◌, ◌<◌, ◌≤◌, Bool, ◌||◌, false, true, List, [], ◌∷◌, ◌++◌, map, length, drop, get_or, refl, sym, ap, ◌∙◌, drop-cons, add-one}
-use Rattle.std.specs.List.{list_any}
+use Rattle.std.specs.List.{list_any, flat_map}
 use Rattle.std.proofs.lemmas.List.{drop_all}
-use Rattle.nest_check.specs.Joined.{joined, through}
+use Rattle.nest_check.specs.Through.{through}
 use Rattle.nest_check.specs.Parts.{Part, Parts_at, all_at}
 
 pub through-append : {S E : Type 0} (step : S → E → S) (s : S) (xs ys : List E) → through step s (xs ++ ys) ≡ through step (through step s xs) ys
@@ -13,16 +13,16 @@ through-append step s (x ∷ xs) ys = through-append step (step s x) xs ys
 pub left_is : {A : Type 0} (xs : List A) (i : ℕ) → i < length xs → (here : A) → here ≡ get_or xs i here → drop i xs ≡ here ∷ drop (i + 1) xs
 left_is xs i there here is = drop-cons xs i here there ∙ ap (λ x. x ∷ drop (suc i) xs) (sym is) ∙ ap (λ k. here ∷ drop k xs) (sym (add-one i))
 
-pub joined_more : {S E A : Type 0} (step : S → E → S) (f : A → List E) (xs : List A) (i : ℕ) → i < length xs → (here : A) → here ≡ get_or xs i here → (s s' whole : S)
-    → through step s (joined (map f (drop i xs))) ≡ whole → s' ≡ through step s (f here) → through step s' (joined (map f (drop (i + 1) xs))) ≡ whole
-joined_more step f xs i there here is s s' whole left more =
-    ap (λ t. through step t (joined (map f (drop (i + 1) xs)))) more
-    ∙ sym (through-append step s (f here) (joined (map f (drop (i + 1) xs))))
-    ∙ ap (λ ys. through step s (joined (map f ys))) (sym (left_is xs i there here is))
+pub flat_more : {S E A : Type 0} (step : S → E → S) (f : A → List E) (xs : List A) (i : ℕ) → i < length xs → (here : A) → here ≡ get_or xs i here → (s s' whole : S)
+    → through step s (flat_map f (drop i xs)) ≡ whole → s' ≡ through step s (f here) → through step s' (flat_map f (drop (i + 1) xs)) ≡ whole
+flat_more step f xs i there here is s s' whole left more =
+    ap (λ t. through step t (flat_map f (drop (i + 1) xs))) more
+    ∙ sym (through-append step s (f here) (flat_map f (drop (i + 1) xs)))
+    ∙ ap (λ ys. through step s (flat_map f ys)) (sym (left_is xs i there here is))
     ∙ left
 
-pub joined_end : {S E A : Type 0} (step : S → E → S) (f : A → List E) (xs : List A) (i : ℕ) → length xs ≤ i → (s whole : S) → through step s (joined (map f (drop i xs))) ≡ whole → s ≡ whole
-joined_end step f xs i over s whole left = ap (λ ys. through step s (joined (map f ys))) (sym (drop_all i xs over)) ∙ left
+pub flat_end : {S E A : Type 0} (step : S → E → S) (f : A → List E) (xs : List A) (i : ℕ) → length xs ≤ i → (s whole : S) → through step s (flat_map f (drop i xs)) ≡ whole → s ≡ whole
+flat_end step f xs i over s whole left = ap (λ ys. through step s (flat_map f ys)) (sym (drop_all i xs over)) ∙ left
 
 -- the same of parts at a level
 pub parts_more : {S A : Type 0} (step : S → Part → S) (f : A → Parts_at) (levels : ℕ) (xs : List A) (i : ℕ) → i < length xs → (here : A) → here ≡ get_or xs i here → (s s' whole : S)

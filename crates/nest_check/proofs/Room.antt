@@ -1,24 +1,24 @@
 -- What is left of the room for entries, the names that are kept, and what the items of regions give.
 use Rattle.std.proofs.Common.{◌≡◌, ℕ, suc, ◌-◌, ◌<◌, ◌≤◌, Bool, true, false, ◌||◌, ◌==◌, if◌then◌else◌, nat_lt, None, Result, Ok, Err, List, [], ◌∷◌, ◌++◌, map, length, take, refl, sym, ap, ◌∙◌, arith, length-append, ◌⊎◌, inl, inr}
+use Rattle.std.specs.List.{flat_map, filter}
 use Rattle.std.specs.Prelude.{OnOk}
 use Rattle.std.proofs.lemmas.Bool.{lt-ltb, le-ltb, ltb-true, ltb-false}
 use Rattle.std.proofs.lemmas.Bool.Decides.{eqb_tells}
-use Rattle.std.proofs.lemmas.List.{take_all, take-append-le, length-take-le}
+use Rattle.std.proofs.lemmas.List.{take_all, take-append-le, length-take-le, map-append}
+use Rattle.std.proofs.lemmas.List.Elements.{filter-append}
 use Rattle.nest_syntax.specs.declared.names.NoMemory.{NoMemory}
-use Rattle.nest_syntax.specs.declared.tree.Arm.{Arm}
-use Rattle.nest_syntax.specs.declared.tree.Stmt.{Stmt}
 use Rattle.nest_syntax.specs.declared.tree.Loop.{Loop}
-use Rattle.lowest_line.specs.Lowest.{lower_of}
-use Rattle.lowest_line.proofs.Lists.{lower_of-append}
+use Rattle.lowest_line.specs.Lowest.{lower_if, lower_of, lines_where}
+use Rattle.lowest_line.proofs.Lists.{lower_of-append, lower_of-where}
+use Rattle.data_local.specs.Bounds.{line_of}
 use Rattle.nest_check.specs.declared.entries.Tally.{Tally}
 use Rattle.nest_check.specs.declared.items.Sizes.{Sizes}
-use Rattle.nest_check.specs.Joined.{joined, through}
+use Rattle.nest_check.specs.Through.{through}
 use Rattle.nest_check.specs.Declarations.{Declaration, has_name, with_declaration, first_of_each}
-use Rattle.nest_check.specs.Entries.{Entry, Plain, Declares, Invokes, items_in_arm, items_of, statements_of, declarations_in, invocations_in, scalars_in_region}
-use Rattle.nest_check.specs.Rules.{is_large_body, has_many_items, large_among, large_regions_among, locals_of}
-use Rattle.nest_check.specs.Noted.{noted_if, added, entered, passed, region_begun, region_passed}
+use Rattle.nest_check.specs.Entries.{Entry, Plain, Declares, Invokes, items_of, statements_of, declarations_in, invocations_in, scalars_in_region}
+use Rattle.nest_check.specs.Rules.{is_large_body, has_many_items, locals_of}
+use Rattle.nest_check.specs.Noted.{added, entered, passed, region_begun, region_passed}
 use Rattle.nest_check.proofs.Lists.{through-append}
-use Rattle.nest_check.proofs.Lines.{noted_line}
 
 less_one : (room room' rest n : ℕ) → room' ≡ rest - n → rest ≡ room - 1 → room' ≡ room - suc n
 less_one room room' rest n left less = omega (arith, left, less)
@@ -94,15 +94,21 @@ large_is l begun tally room names walked =
     kept : tally.names ≡ take 17 (locals_of l)
     kept = ap (λ (t : Tally). t.names) walked ∙ names_kept 17 begun (statements_of l.body) ∙ ap (λ ns. through (added 17) ns (declarations_in (statements_of l.body))) names ∙ capped 17 [] ((l.name, l.line) ∷ declarations_in (statements_of l.body))
 
--- an `if` among the items: itself, and then what it holds
-pub if_passed : (result : Result (Unit {0}) NoMemory) (s1 s2 s3 s4 : Sizes) (arms : List Arm) (other : List Stmt) {here : List Entry} → here ≡ Plain ∷ joined (map items_in_arm arms) ++ items_of other
-    → s2 ≡ passed s1 Plain → s3 ≡ through passed s2 (joined (map items_in_arm arms)) → OnOk result (s4 ≡ through passed s3 (items_of other)) → OnOk result (s4 ≡ through passed s1 here)
-if_passed (Err e) s1 s2 s3 s4 arms other is first second third = third
-if_passed (Ok done) s1 s2 s3 s4 arms other is first second third =
+-- one entry, and then others
+pub first_passed : {S : Type 0} (step : S → Entry → S) (result : Result (Unit {0}) NoMemory) (s1 s2 s3 : S) (entry : Entry) (behind : List Entry) {all : List Entry} → all ≡ entry ∷ behind
+    → s2 ≡ step s1 entry → OnOk result (s3 ≡ through step s2 behind) → OnOk result (s3 ≡ through step s1 all)
+first_passed step (Err e) s1 s2 s3 entry behind is first second = second
+first_passed step (Ok done) s1 s2 s3 entry behind is first second = second ∙ ap (λ t. through step t behind) first ∙ ap (through step s1) (sym is)
+
+-- an `if`: itself, and then what its arms and its last block hold
+pub if_passed : {S : Type 0} (step : S → Entry → S) (result : Result (Unit {0}) NoMemory) (s1 s2 s3 s4 : S) (arms other : List Entry) {all : List Entry} → all ≡ Plain ∷ arms ++ other
+    → s2 ≡ step s1 Plain → s3 ≡ through step s2 arms → OnOk result (s4 ≡ through step s3 other) → OnOk result (s4 ≡ through step s1 all)
+if_passed step (Err e) s1 s2 s3 s4 arms other is first second third = third
+if_passed step (Ok done) s1 s2 s3 s4 arms other is first second third =
     third
-    ∙ ap (λ t. through passed t (items_of other)) (second ∙ ap (λ t. through passed t (joined (map items_in_arm arms))) first)
-    ∙ sym (through-append passed (passed s1 Plain) (joined (map items_in_arm arms)) (items_of other))
-    ∙ ap (through passed s1) (sym is)
+    ∙ ap (λ t. through step t other) (second ∙ ap (λ t. through step t arms) first)
+    ∙ sym (through-append step (step s1 Plain) arms other)
+    ∙ ap (through step s1) (sym is)
 
 -- what the items of a region give
 items_tally : (sizes : Sizes) (entries : List Entry) → (through passed sizes entries).tally ≡ through (entered 33) sizes.tally entries
@@ -113,63 +119,58 @@ items_regions : (sizes : Sizes) (entries : List Entry) → (through passed sizes
 items_regions sizes [] = refl
 items_regions sizes (e ∷ entries) = items_regions (passed sizes e) entries
 
-items_bodies : (sizes : Sizes) (entries : List Entry) → (through passed sizes entries).bodies ≡ lower_of sizes.bodies (large_among (invocations_in entries))
+items_bodies : (sizes : Sizes) (entries : List Entry) → (through passed sizes entries).bodies ≡ lower_of sizes.bodies (lines_where line_of is_large_body (invocations_in entries))
 items_bodies sizes [] = refl
 items_bodies sizes (Plain ∷ entries) = items_bodies (passed sizes Plain) entries
 items_bodies sizes (Declares d ∷ entries) = items_bodies (passed sizes (Declares d)) entries
-items_bodies sizes (Invokes l ∷ entries) = items_bodies (passed sizes (Invokes l)) entries ∙ noted_line (is_large_body l) sizes.bodies l.line (large_among (invocations_in entries))
+items_bodies sizes (Invokes l ∷ entries) = items_bodies (passed sizes (Invokes l)) entries ∙ lower_of-where line_of is_large_body sizes.bodies l (invocations_in entries)
 
-large_append : (xs ys : List Loop) → large_among (xs ++ ys) ≡ large_among xs ++ large_among ys
-large_append [] ys = refl
-large_append (l ∷ xs) ys = by (is_large_body l) (large_append xs ys)
-  where
-    by : (large : Bool) → large_among (xs ++ ys) ≡ large_among xs ++ large_among ys → (if large then l.line ∷ large_among (xs ++ ys) else large_among (xs ++ ys)) ≡ (if large then l.line ∷ large_among xs else large_among xs) ++ large_among ys
-    by true rest = ap (λ lines. l.line ∷ lines) rest
-    by false rest = rest
+large_append : (xs ys : List Loop) → lines_where line_of is_large_body (xs ++ ys) ≡ lines_where line_of is_large_body xs ++ lines_where line_of is_large_body ys
+large_append xs ys = ap (map line_of) (filter-append is_large_body xs ys) ∙ map-append line_of (filter is_large_body xs) (filter is_large_body ys)
 
 abbrev pub invocations_of : List Loop → List Loop
-invocations_of regions = joined (map (λ (region : Loop). invocations_in (items_of region.body)) regions)
+invocations_of regions = flat_map (λ (region : Loop). invocations_in (items_of region.body)) regions
 
-pub bodies_found : (sizes : Sizes) (regions : List Loop) → (through region_passed sizes regions).bodies ≡ lower_of sizes.bodies (large_among (invocations_of regions))
+pub bodies_found : (sizes : Sizes) (regions : List Loop) → (through region_passed sizes regions).bodies ≡ lower_of sizes.bodies (lines_where line_of is_large_body (invocations_of regions))
 bodies_found sizes [] = refl
 bodies_found sizes (region ∷ regions) =
     bodies_found (region_passed sizes region) regions
-    ∙ ap (λ f. lower_of f (large_among (invocations_of regions))) (items_bodies (region_begun sizes region) (items_of region.body))
-    ∙ sym (lower_of-append sizes.bodies (large_among (invocations_in (items_of region.body))) (large_among (invocations_of regions)))
+    ∙ ap (λ f. lower_of f (lines_where line_of is_large_body (invocations_of regions))) (items_bodies (region_begun sizes region) (items_of region.body))
+    ∙ sym (lower_of-append sizes.bodies (lines_where line_of is_large_body (invocations_in (items_of region.body))) (lines_where line_of is_large_body (invocations_of regions)))
     ∙ ap (lower_of sizes.bodies) (sym (large_append (invocations_in (items_of region.body)) (invocations_of regions)))
 
 region_left : (sizes : Sizes) (region : Loop) → (through passed (region_begun sizes region) (items_of region.body)).tally.room ≡ 65 - length (items_of region.body)
 region_left sizes region = ap (λ (t : Tally). t.room) (items_tally (region_begun sizes region) (items_of region.body)) ∙ room_left 33 (region_begun sizes region).tally (items_of region.body)
 
-pub regions_found : (sizes : Sizes) (regions : List Loop) → (through region_passed sizes regions).regions ≡ lower_of sizes.regions (large_regions_among regions)
+pub regions_found : (sizes : Sizes) (regions : List Loop) → (through region_passed sizes regions).regions ≡ lower_of sizes.regions (lines_where line_of has_many_items regions)
 regions_found sizes [] = refl
 regions_found sizes (region ∷ regions) =
     let end = through passed (region_begun sizes region) (items_of region.body) in
     regions_found (region_passed sizes region) regions
-    ∙ ap (λ n. lower_of (noted_if (n == 0) end.regions region.line) (large_regions_among regions)) (region_left sizes region)
-    ∙ ap (λ b. lower_of (noted_if b end.regions region.line) (large_regions_among regions)) (no_room 64 (length (items_of region.body)))
-    ∙ ap (λ f. lower_of (noted_if (has_many_items region) f region.line) (large_regions_among regions)) (items_regions (region_begun sizes region) (items_of region.body))
-    ∙ noted_line (has_many_items region) sizes.regions region.line (large_regions_among regions)
+    ∙ ap (λ n. lower_of (lower_if (n == 0) end.regions region.line) (lines_where line_of has_many_items regions)) (region_left sizes region)
+    ∙ ap (λ b. lower_of (lower_if b end.regions region.line) (lines_where line_of has_many_items regions)) (no_room 64 (length (items_of region.body)))
+    ∙ ap (λ f. lower_of (lower_if (has_many_items region) f region.line) (lines_where line_of has_many_items regions)) (items_regions (region_begun sizes region) (items_of region.body))
+    ∙ lower_of-where line_of has_many_items sizes.regions region regions
 
-pub scalars_found : (sizes : Sizes) (regions : List Loop) → (through region_passed sizes regions).tally.names ≡ through (added 33) sizes.tally.names (joined (map scalars_in_region regions))
+pub scalars_found : (sizes : Sizes) (regions : List Loop) → (through region_passed sizes regions).tally.names ≡ through (added 33) sizes.tally.names (flat_map scalars_in_region regions)
 scalars_found sizes [] = refl
 scalars_found sizes (region ∷ regions) =
     scalars_found (region_passed sizes region) regions
-    ∙ ap (λ names. through (added 33) names (joined (map scalars_in_region regions)))
+    ∙ ap (λ names. through (added 33) names (flat_map scalars_in_region regions))
     (ap (λ (t : Tally). t.names) (items_tally (region_begun sizes region) (items_of region.body)) ∙ names_kept 33 (region_begun sizes region).tally (items_of region.body))
-    ∙ sym (through-append (added 33) sizes.tally.names (scalars_in_region region) (joined (map scalars_in_region regions)))
+    ∙ sym (through-append (added 33) sizes.tally.names (scalars_in_region region) (flat_map scalars_in_region regions))
 
 -- regions from the beginning
-pub bodies_lowest : (found begun : Sizes) (regions : List Loop) → found ≡ through region_passed begun regions → begun.bodies ≡ None → found.bodies ≡ lower_of None (large_among (invocations_of regions))
-bodies_lowest found begun regions walked none = ap (λ (s : Sizes). s.bodies) walked ∙ bodies_found begun regions ∙ ap (λ f. lower_of f (large_among (invocations_of regions))) none
+pub bodies_lowest : (found begun : Sizes) (regions : List Loop) → found ≡ through region_passed begun regions → begun.bodies ≡ None → found.bodies ≡ lower_of None (lines_where line_of is_large_body (invocations_of regions))
+bodies_lowest found begun regions walked none = ap (λ (s : Sizes). s.bodies) walked ∙ bodies_found begun regions ∙ ap (λ f. lower_of f (lines_where line_of is_large_body (invocations_of regions))) none
 
-pub regions_lowest : (found begun : Sizes) (regions : List Loop) → found ≡ through region_passed begun regions → begun.regions ≡ None → found.regions ≡ lower_of None (large_regions_among regions)
-regions_lowest found begun regions walked none = ap (λ (s : Sizes). s.regions) walked ∙ regions_found begun regions ∙ ap (λ f. lower_of f (large_regions_among regions)) none
+pub regions_lowest : (found begun : Sizes) (regions : List Loop) → found ≡ through region_passed begun regions → begun.regions ≡ None → found.regions ≡ lower_of None (lines_where line_of has_many_items regions)
+regions_lowest found begun regions walked none = ap (λ (s : Sizes). s.regions) walked ∙ regions_found begun regions ∙ ap (λ f. lower_of f (lines_where line_of has_many_items regions)) none
 
 pub scalars_first : (found begun : Sizes) (none declared : List Declaration) (regions : List Loop) → found ≡ through region_passed begun regions → none ≡ [] → begun.tally.names ≡ through (added 33) none declared
-    → found.tally.names ≡ take 33 (first_of_each (declared ++ joined (map scalars_in_region regions)))
+    → found.tally.names ≡ take 33 (first_of_each (declared ++ flat_map scalars_in_region regions))
 scalars_first found begun none declared regions walked empty before =
     ap (λ (s : Sizes). s.tally.names) walked ∙ scalars_found begun regions
-    ∙ ap (λ names. through (added 33) names (joined (map scalars_in_region regions))) (before ∙ ap (λ names. through (added 33) names declared) empty)
-    ∙ sym (through-append (added 33) [] declared (joined (map scalars_in_region regions)))
-    ∙ capped 33 [] (declared ++ joined (map scalars_in_region regions))
+    ∙ ap (λ names. through (added 33) names (flat_map scalars_in_region regions)) (before ∙ ap (λ names. through (added 33) names declared) empty)
+    ∙ sym (through-append (added 33) [] declared (flat_map scalars_in_region regions))
+    ∙ capped 33 [] (declared ++ flat_map scalars_in_region regions)

@@ -3,7 +3,7 @@ use Rattle.std.specs.Prelude.{ℕ, suc, Bool, if◌then◌else◌, ◌==◌, Opt
 use Rattle.std.specs.Option.{option_map}
 use Rattle.std.specs.List.{list_any}
 use Rattle.nest_syntax.specs.declared.names.Line.{Line}
-use Rattle.nest_check.specs.Joined.{through}
+use Rattle.nest_check.specs.Through.{through}
 
 -- a declaration: its name and its line
 abbrev pub Declaration : Type 0

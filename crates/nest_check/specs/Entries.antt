@@ -1,5 +1,6 @@
 -- The items of a region and the statements of a body, as the rules on their number see them.
-use Rattle.std.specs.Prelude.{List, [], ◌∷◌, ◌++◌, map}
+use Rattle.std.specs.Prelude.{List, [], ◌∷◌, ◌++◌}
+use Rattle.std.specs.List.{flat_map}
 use Rattle.nest_syntax.specs.declared.tree.Loop.{Loop}
 use Rattle.nest_syntax.specs.declared.tree.Arm.{Arm}
 use Rattle.nest_syntax.specs.declared.tree.Stmt.{Stmt}
@@ -8,7 +9,6 @@ use Rattle.nest_syntax.specs.declared.tree.Stmt.TheFolds.{fold-Stmt, fold-Arm, f
 use Rattle.nest_syntax.specs.declared.tree.Program.{Program}
 use Rattle.nest_syntax.specs.declared.tree.Decl.{Decl}
 use Rattle.nest_syntax.specs.declared.tree.Decl.TheVariants as decl
-use Rattle.nest_check.specs.Joined.{joined}
 use Rattle.nest_check.specs.Declarations.{Declaration}
 
 -- an item or a statement: it declares a name, it is a loop among the items, or it does neither
@@ -22,14 +22,14 @@ abbrev pub items_node : Stmt-F (Stmt × List Entry) (Arm × List Entry) (Loop ×
 items_node (Stmt-F.Declare line name value) = Declares (name, line) ∷ []
 items_node (Stmt-F.Assign line name op value) = Plain ∷ []
 items_node (Stmt-F.Write line array place op value) = Plain ∷ []
-items_node (Stmt-F.If arms other) = Plain ∷ joined (map (λ (a : Arm × List Entry). a.1) arms) ++ joined (map (λ (s : Stmt × List Entry). s.1) other)
+items_node (Stmt-F.If arms other) = Plain ∷ flat_map (λ (a : Arm × List Entry). a.1) arms ++ flat_map (λ (s : Stmt × List Entry). s.1) other
 items_node (Stmt-F.Loop l) = Invokes l.0 ∷ []
 
 abbrev pub arm_items_node : Arm-F (Stmt × List Entry) (Arm × List Entry) (Loop × List Entry) → List Entry
-arm_items_node arm = joined (map (λ (s : Stmt × List Entry). s.1) arm.body)
+arm_items_node arm = flat_map (λ (s : Stmt × List Entry). s.1) arm.body
 
 abbrev pub loop_items_node : Loop-F (Stmt × List Entry) (Arm × List Entry) (Loop × List Entry) → List Entry
-loop_items_node l = joined (map (λ (s : Stmt × List Entry). s.1) l.body)
+loop_items_node l = flat_map (λ (s : Stmt × List Entry). s.1) l.body
 
 -- a statement of a region and, where it is an `if`, all items that it holds
 abbrev pub items : Stmt → List Entry
@@ -40,22 +40,22 @@ items_in_arm = para-Arm (List Entry) (List Entry) (List Entry) items_node arm_it
 
 -- the items of a region, an `if` and its inner items counted each
 abbrev pub items_of : List Stmt → List Entry
-items_of stmts = joined (map items stmts)
+items_of stmts = flat_map items stmts
 
 -- one layer of the statements of a body: each statement, and behind an `if` or a loop what it holds
 abbrev pub statements_node : Stmt-F (List Entry) (List Entry) (List Entry) → List Entry
 statements_node (Stmt-F.Declare line name value) = Declares (name, line) ∷ []
 statements_node (Stmt-F.Assign line name op value) = Plain ∷ []
 statements_node (Stmt-F.Write line array place op value) = Plain ∷ []
-statements_node (Stmt-F.If arms other) = Plain ∷ joined arms ++ joined other
+statements_node (Stmt-F.If arms other) = Plain ∷ flat_map (λ (entries : List Entry). entries) arms ++ flat_map (λ (entries : List Entry). entries) other
 statements_node (Stmt-F.Loop l) = l
 
 abbrev pub arm_statements_node : Arm-F (List Entry) (List Entry) (List Entry) → List Entry
-arm_statements_node arm = joined arm.body
+arm_statements_node arm = flat_map (λ (entries : List Entry). entries) arm.body
 
 -- a loop declares its variable
 abbrev pub loop_statements_node : Loop-F (List Entry) (List Entry) (List Entry) → List Entry
-loop_statements_node l = Declares (l.name, l.line) ∷ joined l.body
+loop_statements_node l = Declares (l.name, l.line) ∷ flat_map (λ (entries : List Entry). entries) l.body
 
 -- a statement of a body and all that it holds
 abbrev pub statements : Stmt → List Entry
@@ -69,7 +69,7 @@ statements_in_loop = fold-Loop (List Entry) (List Entry) (List Entry) statements
 
 -- the statements of a body, an `if` and a loop counted as one besides what they hold
 abbrev pub statements_of : List Stmt → List Entry
-statements_of stmts = joined (map statements stmts)
+statements_of stmts = flat_map statements stmts
 
 -- the declarations among items or statements, in order
 abbrev pub declarations_in : List Entry → List Declaration
@@ -97,4 +97,4 @@ scalars_in_region region = (region.name, region.line) ∷ declarations_in (items
 
 -- the declarations of scheduler scalars, in textual order
 abbrev pub scheduler_scalars : Program → List Declaration
-scheduler_scalars program = scalars_in program.decls ++ joined (map scalars_in_region program.regions)
+scheduler_scalars program = scalars_in program.decls ++ flat_map scalars_in_region program.regions

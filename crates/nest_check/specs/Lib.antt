@@ -1,4 +1,4 @@
-pub mod Joined
+pub mod Through
 pub mod Declarations
 pub mod Entries
 pub mod Parts

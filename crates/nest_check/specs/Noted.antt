@@ -1,27 +1,23 @@
 -- What the walks over a program note, part by part and entry by entry.
-use Rattle.std.specs.Prelude.{ℕ, ◌-◌, Bool, true, false, ◌==◌, if◌then◌else◌, nat_lt, Option, List, length}
+use Rattle.std.specs.Prelude.{ℕ, ◌-◌, ◌==◌, if◌then◌else◌, nat_lt, Option, List, length}
 use Rattle.nest_syntax.specs.declared.names.Line.{Line}
 use Rattle.nest_syntax.specs.declared.tree.Loop.{Loop}
-use Rattle.lowest_line.specs.Lowest.{lower}
+use Rattle.lowest_line.specs.Lowest.{lower_if}
 use Rattle.nest_check.specs.declared.parts.Breaches.{Breaches}
 use Rattle.nest_check.specs.declared.entries.Tally.{Tally}
 use Rattle.nest_check.specs.declared.items.Sizes.{Sizes}
-use Rattle.nest_check.specs.Joined.{through}
+use Rattle.nest_check.specs.Through.{through}
 use Rattle.nest_check.specs.Declarations.{Declaration, with_declaration}
 use Rattle.nest_check.specs.Entries.{Entry, Plain, Declares, Invokes, items_of}
 use Rattle.nest_check.specs.Parts.{Part}
 use Rattle.nest_check.specs.Rules.{part_line, has_wrong_step, has_no_level, is_deep, is_large_body}
 
--- the lowest line so far, and a further one that counts where a rule is broken there
-abbrev pub noted_if : Bool → Option Line → Line → Option Line
-noted_if true found line = lower found line
-noted_if false found line = found
-
+-- the lowest lines so far, and one part more
 abbrev pub noted : Breaches → Part → Breaches
 noted found part = record {
-  steps = noted_if (has_wrong_step part) found.steps (part_line part);
-  levels = noted_if (has_no_level part) found.levels (part_line part);
-  depths = noted_if (is_deep part) found.depths (part_line part);
+  steps = lower_if (has_wrong_step part) found.steps (part_line part);
+  levels = lower_if (has_no_level part) found.levels (part_line part);
+  depths = lower_if (is_deep part) found.depths (part_line part);
 }
 
 -- declarations that are kept up to a number of names
@@ -41,7 +37,7 @@ entered most tally (Invokes l) = counted tally
 abbrev pub body_noted : Option Line → Entry → Option Line
 body_noted found Plain = found
 body_noted found (Declares d) = found
-body_noted found (Invokes l) = noted_if (is_large_body l) found l.line
+body_noted found (Invokes l) = lower_if (is_large_body l) found l.line
 
 -- one item more
 abbrev pub passed : Sizes → Entry → Sizes
@@ -64,7 +60,7 @@ abbrev pub region_ended : Sizes → Loop → Sizes
 region_ended sizes region = record {
   tally = sizes.tally;
   bodies = sizes.bodies;
-  regions = noted_if (sizes.tally.room == 0) sizes.regions region.line;
+  regions = lower_if (sizes.tally.room == 0) sizes.regions region.line;
 }
 
 abbrev pub region_passed : Sizes → Loop → Sizes

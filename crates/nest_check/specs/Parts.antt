@@ -1,5 +1,6 @@
 -- The loops and the expressions of a program, each with its line.
-use Rattle.std.specs.Prelude.{ℕ, suc, ◌-◌, max, List, [], ◌∷◌, ◌++◌, map}
+use Rattle.std.specs.Prelude.{ℕ, suc, ◌-◌, max, List, [], ◌∷◌, ◌++◌}
+use Rattle.std.specs.List.{flat_map}
 use Rattle.nest_syntax.specs.declared.names.Line.{Line}
 use Rattle.nest_syntax.specs.declared.tree.Expr.{Expr, fold-Expr}
 use Rattle.nest_syntax.specs.declared.tree.Expr.TheOpen.{Expr-F}
@@ -8,7 +9,6 @@ use Rattle.nest_syntax.specs.declared.tree.Arm.{Arm}
 use Rattle.nest_syntax.specs.declared.tree.Stmt.{Stmt}
 use Rattle.nest_syntax.specs.declared.tree.Stmt.TheOpen.{Stmt-F, Arm-F, Loop-F}
 use Rattle.nest_syntax.specs.declared.tree.Stmt.TheFolds.{fold-Stmt, fold-Arm, fold-Loop}
-use Rattle.nest_check.specs.Joined.{joined}
 
 -- one layer of the depth of an expression: a number or a name 1, any other one more than its deepest part
 abbrev pub depth_node : Expr-F ℕ → ℕ
@@ -33,7 +33,7 @@ abbrev pub Parts_at : Type 0
 Parts_at = ℕ → List Part
 
 abbrev pub all_at : List Parts_at → Parts_at
-all_at parts levels = joined (map (λ (p : Parts_at). p levels) parts)
+all_at parts levels = flat_map (λ (p : Parts_at). p levels) parts
 
 abbrev pub parts_node : Stmt-F Parts_at Parts_at Parts_at → Parts_at
 parts_node (Stmt-F.Declare line name value) levels = AnExpression line value ∷ []

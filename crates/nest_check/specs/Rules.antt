@@ -1,11 +1,13 @@
 -- Rules of the checker. Each is the list of the lines that break it; the program keeps it where that list is empty.
 use Rattle.std.specs.Prelude.{ℕ, ◌+◌, Bool, false, ◌||◌, if◌then◌else◌, nat_lt, ◌==◌, List, [], ◌∷◌, ◌++◌, map, take, drop, length}
+use Rattle.std.specs.List.{flat_map}
 use Rattle.nest_syntax.specs.declared.names.Line.{Line}
 use Rattle.nest_syntax.specs.declared.tree.Decl.{Decl}
 use Rattle.nest_syntax.specs.declared.tree.Decl.TheVariants as decl
 use Rattle.nest_syntax.specs.declared.tree.Loop.{Loop}
 use Rattle.nest_syntax.specs.declared.tree.Program.{Program}
-use Rattle.nest_check.specs.Joined.{joined}
+use Rattle.lowest_line.specs.Lowest.{lines_where}
+use Rattle.data_local.specs.Bounds.{line_of}
 use Rattle.nest_check.specs.Declarations.{Declaration, first_of_each, lines_of}
 use Rattle.nest_check.specs.Entries.{items_of, statements_of, declarations_in, invocations_in, scheduler_scalars}
 use Rattle.nest_check.specs.Parts.{Part, ALoop, AnExpression, depth, all_at, parts_in_loop}
@@ -20,7 +22,7 @@ array_lines (decl.Array line name length fixed ∷ decls) = line ∷ array_lines
 array_lines (decl.Scalar line name value ∷ decls) = array_lines decls
 
 abbrev pub region_lines : List Loop → List Line
-region_lines regions = map (λ (l : Loop). l.line) regions
+region_lines regions = map line_of regions
 
 -- There are at most 64 arrays and at most 64 regions: broken by the 65th of each.
 abbrev pub beyond_64 : Program → List Line
@@ -49,14 +51,10 @@ sum_passes sum (decl.Scalar line name value ∷ decls) = sum_passes sum decls
 abbrev pub wrong_lengths : Program → List Line
 wrong_lengths program = lengths_outside program.decls ++ sum_passes 0 program.decls
 
--- the lines of the parts that fail a test
+-- the line of a part
 abbrev pub part_line : Part → Line
 part_line (ALoop line step levels) = line
 part_line (AnExpression line e) = line
-
-abbrev pub lines_where : (Part → Bool) → List Part → List Line
-lines_where test [] = []
-lines_where test (part ∷ parts) = if test part then part_line part ∷ lines_where test parts else lines_where test parts
 
 -- the loops and expressions of a program; loops may have four levels
 abbrev pub parts_of : Program → List Part
@@ -68,7 +66,7 @@ has_wrong_step (AnExpression line e) = false
 
 -- A step is 1 to 65,536.
 abbrev pub wrong_steps : Program → List Line
-wrong_steps program = lines_where has_wrong_step (parts_of program)
+wrong_steps program = lines_where part_line has_wrong_step (parts_of program)
 
 abbrev pub has_no_level : Part → Bool
 has_no_level (ALoop line step levels) = levels == 0
@@ -76,18 +74,14 @@ has_no_level (AnExpression line e) = false
 
 -- Loops stand at depth 1 to 4.
 abbrev pub deep_loops : Program → List Line
-deep_loops program = lines_where has_no_level (parts_of program)
+deep_loops program = lines_where part_line has_no_level (parts_of program)
 
 abbrev pub has_many_items : Loop → Bool
 has_many_items region = nat_lt 64 (length (items_of region.body))
 
-abbrev pub large_regions_among : List Loop → List Line
-large_regions_among [] = []
-large_regions_among (region ∷ regions) = if has_many_items region then region.line ∷ large_regions_among regions else large_regions_among regions
-
 -- A region has at most 64 items, an `if` and its inner items counted each.
 abbrev pub large_regions : Program → List Line
-large_regions program = large_regions_among program.regions
+large_regions program = lines_where line_of has_many_items program.regions
 
 -- the locals of an invocation, its loop's variable among them: the first declaration of each name
 abbrev pub locals_of : Loop → List Declaration
@@ -96,14 +90,9 @@ locals_of l = first_of_each ((l.name, l.line) ∷ declarations_in (statements_of
 abbrev pub is_large_body : Loop → Bool
 is_large_body l = nat_lt 1024 (length (statements_of l.body)) || nat_lt 16 (length (locals_of l))
 
--- the lines of the loops whose body is too large
-abbrev pub large_among : List Loop → List Line
-large_among [] = []
-large_among (l ∷ loops) = if is_large_body l then l.line ∷ large_among loops else large_among loops
-
 -- A body has at most 1,024 statements and at most 16 names of locals.
 abbrev pub large_bodies : Program → List Line
-large_bodies program = large_among (joined (map (λ (region : Loop). invocations_in (items_of region.body)) program.regions))
+large_bodies program = lines_where line_of is_large_body (flat_map (λ (region : Loop). invocations_in (items_of region.body)) program.regions)
 
 abbrev pub is_deep : Part → Bool
 is_deep (ALoop line step levels) = false
@@ -111,4 +100,4 @@ is_deep (AnExpression line e) = nat_lt 16 (depth e)
 
 -- An expression has depth at most 16, and a program has at most 32 names of scheduler scalars.
 abbrev pub deep_expressions : Program → List Line
-deep_expressions program = lines_where is_deep (parts_of program) ++ first_behind 32 (lines_of (first_of_each (scheduler_scalars program)))
+deep_expressions program = lines_where part_line is_deep (parts_of program) ++ first_behind 32 (lines_of (first_of_each (scheduler_scalars program)))

@@ -1,5 +1,5 @@
 -- Tables by the number of a name.
-use Rattle.std.specs.Prelude.{◌≡◌, ℕ, ◌<◌, ◌^◌, length, if◌then◌else◌, is_none, Option, Some, None, List, map, slice_index_or, slice_set}
+use Rattle.std.specs.Prelude.{◌≡◌, ℕ, if◌then◌else◌, is_none, Option, Some, None, List, map, slice_index_or, slice_set}
 use Rattle.nest_syntax.specs.declared.tree.Decl.{Decl}
 use Rattle.nest_syntax.specs.declared.tree.Program.{Program}
 use Rattle.nest_syntax.specs.Named.{IsWellNamed}
@@ -29,7 +29,6 @@ place_noted table name place = if is_none (at_name table name) then slice_set ta
 pub record IsChecked (program : Program) (lengths : List ℕ) (arrays scalars : List (Option ℕ)) (locals : List (List ℕ)) : Type 0 where
   pub named : IsWellNamed program
   pub keeps : KeepsRules program
-  pub few_decls : length program.decls < 2 ^ 32
   pub lengths_are : lengths ≡ sizes_of (arrays_of program.decls)
   pub arrays_are : (name : ℕ) → at_name arrays name ≡ array_of (arrays_of program.decls) name
   pub scalars_are : (name : ℕ) → at_name scalars name ≡ scalar_of program name

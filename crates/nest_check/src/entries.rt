@@ -1,5 +1,6 @@
 ghost use Rattle.std.specs.Prelude.{◌≡◌, ◌==◌, ◌||◌, nat_lt, length, OnOk, IfOk, map};
-ghost use Rattle.nest_check.specs.Joined.{joined, through};
+ghost use Rattle.std.specs.List.{flat_map};
+ghost use Rattle.nest_check.specs.Through.{through};
 ghost use Rattle.nest_check.specs.Entries.{Declares, statements, statements_of, statements_in_arm, statements_in_loop};
 ghost use Rattle.nest_check.specs.Rules.{is_large_body};
 ghost use Rattle.nest_check.specs.Noted.{counted, entered};
@@ -93,7 +94,7 @@ fn count_stmt(stmt: &Stmt, tally: &mut Tally) -> Result<(), NoMemory>
 
 #[cycle(count)]
 fn count_arms(arms: &[Arm], tally: &mut Tally) -> Result<(), NoMemory>
-    ensures { OnOk result (tally.new ≡ through (entered 17) tally.old (joined (map statements_in_arm arms.now))) }
+    ensures { OnOk result (tally.new ≡ through (entered 17) tally.old (flat_map statements_in_arm arms.now)) }
 {
     for arm in arms {
         count_block(arm.body.as_slice(), tally)?;

@@ -1,6 +1,7 @@
 ghost use Rattle.std.specs.Prelude.{◌≡◌, OnOk, IfOk, map, take};
+ghost use Rattle.std.specs.List.{flat_map};
 ghost use Rattle.lowest_line.specs.Lowest.{lowest};
-ghost use Rattle.nest_check.specs.Joined.{joined, through};
+ghost use Rattle.nest_check.specs.Through.{through};
 ghost use Rattle.nest_check.specs.Declarations.{first_of_each};
 ghost use Rattle.nest_check.specs.Entries.{Plain, Declares, Invokes, items, items_of, items_in_arm, scalars_in, scheduler_scalars};
 ghost use Rattle.nest_check.specs.Rules.{large_regions, large_bodies};
@@ -150,7 +151,7 @@ fn pass_item(alloc: Global, stmt: &Stmt, sizes: &mut Sizes) -> Result<(), NoMemo
 
 #[cycle(pass)]
 fn pass_arms(alloc: Global, arms: &[Arm], sizes: &mut Sizes) -> Result<(), NoMemory>
-    ensures { OnOk result (sizes.new ≡ through passed sizes.old (joined (map items_in_arm arms.now))) }
+    ensures { OnOk result (sizes.new ≡ through passed sizes.old (flat_map items_in_arm arms.now)) }
 {
     for arm in arms {
         pass_items(alloc, arm.body.as_slice(), sizes)?;

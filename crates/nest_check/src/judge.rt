@@ -1,6 +1,5 @@
 ghost use Rattle.std.specs.Prelude.{◌≡◌, IfOk, take};
 ghost use Rattle.lowest_line.specs.Lowest.{lower_of};
-ghost use Rattle.nest_syntax.specs.Named.{IsWellNamed};
 ghost use Rattle.nest_check.specs.Declarations.{first_of_each, lines_of};
 ghost use Rattle.nest_check.specs.Entries.{scheduler_scalars};
 ghost use Rattle.nest_check.specs.Rules.{first_behind};
@@ -26,7 +25,6 @@ pub(crate) struct Judgement {
 }
 
 pub(crate) fn judge(alloc: Global, program: &Program) -> Result<Judgement, NoMemory>
-    requires { IsWellNamed program.now }
     ensures broken { IfOk result (λ j. IsBroken program.now j.broken) }
     ensures scalars { IfOk result (λ j. j.scalars ≡ take 33 (first_of_each (scheduler_scalars program.now))) }
 {

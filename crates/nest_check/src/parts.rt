@@ -1,8 +1,8 @@
 ghost use Rattle.std.specs.Prelude.{◌≡◌, map};
-ghost use Rattle.lowest_line.specs.Lowest.{lowest};
-ghost use Rattle.nest_check.specs.Joined.{through};
+ghost use Rattle.lowest_line.specs.Lowest.{lowest, lines_where};
+ghost use Rattle.nest_check.specs.Through.{through};
 ghost use Rattle.nest_check.specs.Parts.{ALoop, AnExpression, all_at, parts, parts_in_arm, parts_in_loop};
-ghost use Rattle.nest_check.specs.Rules.{parts_of, wrong_steps, deep_loops, lines_where, is_deep};
+ghost use Rattle.nest_check.specs.Rules.{parts_of, wrong_steps, deep_loops, part_line, is_deep};
 ghost use Rattle.nest_check.specs.Noted.{noted};
 
 use crate::expressions::is_deeper;
@@ -48,7 +48,7 @@ impl Breaches {
 pub(crate) fn part_breaches(program: &Program) -> Breaches
     ensures steps { result.steps ≡ lowest (wrong_steps program.now) }
     ensures levels { result.levels ≡ lowest (deep_loops program.now) }
-    ensures depths { result.depths ≡ lowest (lines_where is_deep (parts_of program.now)) }
+    ensures depths { result.depths ≡ lowest (lines_where part_line is_deep (parts_of program.now)) }
 {
     let mut found = Breaches {
         steps: Lowest::new(),

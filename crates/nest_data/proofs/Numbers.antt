@@ -1,28 +1,18 @@
 -- Digits and the number that they say.
-use Rattle.std.proofs.Common.{◌≡◌, ℕ, ◌+◌, ◌-◌, ◌*◌, ◌<◌, ◌≤◌, true, false, not, ◌&&◌, Some, None, List, [], ◌∷◌, ◌++◌, length, get_or, take, drop, ap, ◌∙◌, arith}
-use Rattle.std.specs.List.{list_all, fold}
-use Rattle.std.proofs.lemmas.List.{take-append-drop}
+use Rattle.std.proofs.Common.{◌≡◌, ℕ, ◌+◌, ◌-◌, ◌*◌, ◌<◌, ◌≤◌, true, false, not, ◌&&◌, Some, None, List, length, get_or, take, ap, ◌∙◌, arith}
+use Rattle.std.specs.List.{list_all}
 use Rattle.std.proofs.lemmas.List.Folds.{list_all_at}
-use Rattle.std.proofs.lemmas.List.Sums.{fold-append, fold_more}
+use Rattle.std.proofs.lemmas.List.Sums.{fold_more}
 use Rattle.std.proofs.lemmas.Bool.{cond-true, cond-false, and_left, and_right, and_from, ne_eqb, lt-leb, le-leb}
-use Rattle.nest_data.specs.Values.{is_digit, are_digits, decimal, number_within}
+use Rattle.nest_lex.specs.Bytes.{is_digit}
+use Rattle.nest_lex.specs.Spelling.{decimal}
+use Rattle.nest_lex.proofs.Numbers.{decimal-front}
+use Rattle.nest_data.specs.Values.{are_digits, number_within}
 
 -- a byte that is no digit
 pub no_digit : (most : ℕ) (bytes : List ℕ) (i : ℕ) → i < length bytes → is_digit (get_or bytes i 0) ≡ false → number_within most bytes ≡ None
 no_digit most bytes i within bad =
     cond-false (are_digits bytes && _) _ _ (and_left _ _ (and_right (not _) _ (list_all_at is_digit bytes i 0 within bad)))
-
--- more digits never say less
-grows : (digits : List ℕ) (value : ℕ) → value ≤ fold (λ value digit. 10 * value + (digit - 48)) value digits
-grows [] value = omega arith
-grows (d ∷ digits) value = omega (arith, grows digits (10 * value + (d - 48)))
-
-pub decimal-front : (bytes : List ℕ) (i : ℕ) → decimal (take i bytes) ≤ decimal bytes
-decimal-front bytes i =
-    let e : decimal (take i bytes ++ drop i bytes) ≡ decimal bytes = ap decimal (take-append-drop i bytes) in
-    let f = fold-append (λ (value : ℕ) (digit : ℕ). 10 * value + (digit - 48)) 0 (take i bytes) (drop i bytes) in
-    let g = grows (drop i bytes) (decimal (take i bytes)) in
-    omega (arith, e, f, g)
 
 -- a front that says too much
 pub too_large : (most : ℕ) (bytes : List ℕ) (i value : ℕ) → i < length bytes → decimal (take i bytes) ≡ value → most < 10 * value + (get_or bytes i 0 - 48) → number_within most bytes ≡ None

@@ -1,27 +1,13 @@
-//! The arrays of a program, by their names and lengths.
+//! The arrays of a program, by their names.
 ghost use Rattle.std.specs.Prelude.{◌≡◌, ◌<◌, ◌^◌, [], length, IfOk, IfSome, slice_index_or};
 ghost use Rattle.std.specs.List.{position};
 ghost use Rattle.std.specs.Str.{bytes_eq};
-ghost use Rattle.nest_syntax.specs.Arrays.{arrays_of, sizes_of};
+ghost use Rattle.nest_syntax.specs.Arrays.{arrays_of};
 ghost use Rattle.nest_data.specs.Data.{array_names, array_named};
 
 use nest_syntax::{Decl, Name, NoMemory};
 use sqlite_items::Items;
 use std::alloc::Global;
-
-/// The lengths of the declared arrays, in order.
-pub(crate) fn lengths_of(alloc: Global, decls: &[Decl]) -> Result<Vec<u64>, NoMemory>
-    ensures { IfOk result (λ lengths. lengths.items ≡ sizes_of (arrays_of decls.now)) }
-{
-    let mut lengths = Vec::new(alloc);
-    for decl in decls {
-        match decl {
-            Decl::Array { length, .. } => lengths.push(*length)?,
-            Decl::Scalar { .. } => {}
-        }
-    }
-    Ok(lengths)
-}
 
 /// The names of the declared arrays, in order.
 pub(crate) fn names_of(alloc: Global, decls: &[Decl]) -> Result<Vec<u32>, NoMemory>

@@ -1,7 +1,7 @@
 //! Data lines: the opening words of a program's arrays, read from text and printed as text.
 //!
-//! In come the bytes of the data lines and a program, out go the words of its arrays, or the first faulty line with its
-//! first fault. Lines are read in one pass, and values are written in their places.
+//! In come the bytes of the data lines and a checked program, out go the words of its arrays, or the first faulty line
+//! with its first fault. Lines are read in one pass, and values are written in their places.
 #![tactic(auto)]
 
 mod arrays;
@@ -12,9 +12,6 @@ mod read;
 mod refused;
 mod values;
 
-pub use print::{print_checked_words, print_words};
-pub use read::{read_data, read_program_data, words_are_of_lines};
+pub use print::print_words;
+pub use read::{read_data, words_are_of_lines};
 pub use refused::{DataKind, DataRefused};
-
-#[cfg(test)]
-mod tests;

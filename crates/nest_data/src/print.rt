@@ -10,8 +10,22 @@ use std::alloc::Global;
 use word_store::Words;
 
 /// The lines of the arrays that aren't `const`, in order of declaration: the name and the values, separated by single
-/// spaces. The words have the sizes of the declared arrays. A name that isn't there is printed as nothing.
-pub fn print_words(
+/// spaces. The words have the sizes of the declared arrays.
+pub fn print_words(alloc: Global, words: &Words, checked: &Checked) -> Result<Vec<u8>, NoMemory>
+    requires { words.now.sizes ≡ sizes_of (arrays_of checked.now.decls) }
+    ensures { IfOk result (λ text. text.items ≡ array_lines checked.now.names words.now 0 checked.now.decls) }
+{
+    let program = checked.program();
+    print_lines(
+        alloc,
+        words,
+        program.names.as_slice(),
+        program.decls.as_slice(),
+    )
+}
+
+// The same of declarations. A name that isn't there is printed as nothing.
+fn print_lines(
     alloc: Global,
     words: &Words,
     names: &[Name],
@@ -45,22 +59,4 @@ fn add_line(text: &mut Vec<u8>, name: &[u8], values: &[i64]) -> Result<(), NoMem
     }
     text.push(b'\n')?;
     Ok(())
-}
-
-/// The same of a checked program.
-pub fn print_checked_words(
-    alloc: Global,
-    words: &Words,
-    checked: &Checked,
-) -> Result<Vec<u8>, NoMemory>
-    requires { words.now.sizes ≡ sizes_of (arrays_of checked.now.decls) }
-    ensures { IfOk result (λ text. text.items ≡ array_lines checked.now.names words.now 0 checked.now.decls) }
-{
-    let program = checked.program();
-    print_words(
-        alloc,
-        words,
-        program.names.as_slice(),
-        program.decls.as_slice(),
-    )
 }

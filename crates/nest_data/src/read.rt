@@ -1,15 +1,14 @@
-ghost use Rattle.std.specs.Prelude.{◌≡◌, ◌≤◌, ◌<◌, ◌^◌, ℕ, List, Ok, length, sum, IfOk};
+ghost use Rattle.std.specs.Prelude.{◌≡◌, ◌≤◌, ℕ, List, Ok, length, IfOk};
 ghost use Rattle.nest_syntax.specs.Arrays.{Array, arrays_of, sizes_of};
-ghost use Rattle.word_store.specs.Memory.{Memory, most_words};
+ghost use Rattle.word_store.specs.Memory.{Memory};
 ghost use Rattle.nest_data.specs.Data.{data_of, Tells};
 ghost use Rattle.nest_data.specs.Lines.{lines_of};
 ghost use Rattle.nest_data.specs.OfLines.{AreOfLines};
 
-use crate::arrays::{lengths_of, names_of};
+use crate::arrays::names_of;
 use crate::progress::Progress;
 use crate::refused::DataRefused;
 use nest_check::Checked;
-use nest_syntax::Program;
 use std::alloc::Global;
 use word_store::Words;
 
@@ -18,32 +17,6 @@ use word_store::Words;
 ///
 /// `Line` comes exactly where a line is faulty, with the first such line and the first of its faults. All memory is
 /// taken before the first line is read.
-pub fn read_program_data(
-    alloc: Global,
-    bytes: &[u8],
-    first_line: u32,
-    program: &Program,
-) -> Result<Words, DataRefused>
-    requires small { length bytes.now ≤ 33554432 }
-    requires line { first_line ≤ 33554433 }
-    requires few { length (arrays_of program.now.decls) < 2 ^ 32 }
-    requires room { sum (sizes_of (arrays_of program.now.decls)) ≤ most_words }
-    ensures told { Tells (data_of program.now.names (arrays_of program.now.decls) first_line bytes.now) result }
-    ensures sizes { IfOk result (λ words. words.sizes ≡ sizes_of (arrays_of program.now.decls)) }
-{
-    let decls = program.decls.as_slice();
-    let arrays = names_of(alloc, decls)?;
-    let lengths = lengths_of(alloc, decls)?;
-    let progress = Progress::open(alloc, lengths.as_slice())?;
-    progress.read_lines(
-        program.names.as_slice(),
-        arrays.as_slice(),
-        bytes,
-        first_line,
-    )
-}
-
-/// The same of a checked program.
 pub fn read_data(
     alloc: Global,
     bytes: &[u8],
@@ -55,7 +28,15 @@ pub fn read_data(
     ensures told { Tells (data_of checked.now.names (arrays_of checked.now.decls) first_line bytes.now) result }
     ensures sizes { IfOk result (λ words. words.sizes ≡ sizes_of (arrays_of checked.now.decls)) }
 {
-    read_program_data(alloc, bytes, first_line, checked.program())
+    let program = checked.program();
+    let arrays = names_of(alloc, program.decls.as_slice())?;
+    let progress = Progress::open(alloc, checked.lengths())?;
+    progress.read_lines(
+        program.names.as_slice(),
+        arrays.as_slice(),
+        bytes,
+        first_line,
+    )
 }
 
 /// Where no line is faulty, each array has the values of its line, and zeros where it has none.

@@ -1,12 +1,13 @@
 //! The value of a word.
 ghost use Rattle.std.specs.Prelude.{◌≡◌, ◌≤◌, pos, neg_ℤ};
+ghost use Rattle.nest_lex.specs.Bytes.{is_digit};
 ghost use Rattle.nest_data.specs.Values as value;
 
 /// The greatest value: 2^63 - 1.
 const GREATEST: u64 = 9_223_372_036_854_775_807;
 
 fn is_digit(byte: u8) -> bool
-    ensures { result ≡ value.is_digit byte }
+    ensures { result ≡ is_digit byte }
 {
     matches!(byte, b'0'..=b'9')
 }

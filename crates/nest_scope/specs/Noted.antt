@@ -1,23 +1,18 @@
 -- The lowest lines that break each rule, over occurrences that come one by one.
-use Rattle.std.specs.Prelude.{Bool, if◌then◌else◌, Option, None, List, [], ◌∷◌}
-use Rattle.nest_syntax.specs.declared.names.Line.{Line}
-use Rattle.lowest_line.specs.Lowest.{lower}
+use Rattle.std.specs.Prelude.{None, List, [], ◌∷◌}
+use Rattle.lowest_line.specs.Lowest.{lower_if}
 use Rattle.nest_scope.specs.declared.occurrences.Occurrence.{Occurrence}
 use Rattle.nest_scope.specs.declared.breaches.ScopeBreaches.{ScopeBreaches}
 use Rattle.nest_scope.specs.Rules.{redeclares, uses_unknown, writes_const, assigns_loop_variable, assigns_scheduler_scalar}
 
--- the lowest line so far, and a further one where it breaks the rule
-abbrev pub lower_where : Bool → Option Line → Line → Option Line
-lower_where breaks found line = if breaks then lower found line else found
-
 -- the lowest lines so far, and one more occurrence
 abbrev pub noted : ScopeBreaches → Occurrence → ScopeBreaches
 noted found o = record {
-  redeclared = lower_where (redeclares o) found.redeclared o.line;
-  unknown = lower_where (uses_unknown o) found.unknown o.line;
-  const_written = lower_where (writes_const o) found.const_written o.line;
-  loop_variable_assigned = lower_where (assigns_loop_variable o) found.loop_variable_assigned o.line;
-  scheduler_scalar_assigned = lower_where (assigns_scheduler_scalar o) found.scheduler_scalar_assigned o.line;
+  redeclared = lower_if (redeclares o) found.redeclared o.line;
+  unknown = lower_if (uses_unknown o) found.unknown o.line;
+  const_written = lower_if (writes_const o) found.const_written o.line;
+  loop_variable_assigned = lower_if (assigns_loop_variable o) found.loop_variable_assigned o.line;
+  scheduler_scalar_assigned = lower_if (assigns_scheduler_scalar o) found.scheduler_scalar_assigned o.line;
 }
 
 -- the lowest lines so far, and more occurrences

@@ -1,8 +1,8 @@
 -- Five rules on names: of each, the occurrences that break it, and the lines of these in the order of the text.
-use Rattle.std.specs.Prelude.{Bool, true, false, List, map}
-use Rattle.std.specs.List.{filter}
+use Rattle.std.specs.Prelude.{Bool, true, false, List}
 use Rattle.nest_syntax.specs.declared.names.Line.{Line}
 use Rattle.nest_syntax.specs.declared.tree.Program.{Program}
+use Rattle.lowest_line.specs.Lowest.{lines_where}
 use Rattle.nest_scope.specs.declared.occurrences.Binding.{Binding}
 use Rattle.nest_scope.specs.declared.occurrences.Binding.TheVariants as binding
 use Rattle.nest_scope.specs.declared.occurrences.Level.{Level}
@@ -55,11 +55,11 @@ is_scheduler_scalar_assigned level.Body action.Assigned binding.SchedulerScalar 
 is_scheduler_scalar_assigned level.Body action.Assigned binding.RegionVariable = true
 is_scheduler_scalar_assigned at does to = false
 
--- the lines of the occurrences that break a rule
-abbrev pub lines_where : (Occurrence → Bool) → List Occurrence → List Line
-lines_where breaks occurrences = map (λ (o : Occurrence). o.line) (filter breaks occurrences)
+-- the line of an occurrence
+abbrev pub line_of : Occurrence → Line
+line_of o = o.line
 
--- the same of an occurrence
+-- whether an occurrence breaks each rule
 abbrev pub redeclares : Occurrence → Bool
 redeclares o = is_redeclared o.action o.binding
 
@@ -77,16 +77,16 @@ assigns_scheduler_scalar o = is_scheduler_scalar_assigned o.level o.action o.bin
 
 -- the lines that break each rule
 abbrev pub lines_redeclared : Program → List Line
-lines_redeclared program = lines_where redeclares (occurrences_of program)
+lines_redeclared program = lines_where line_of redeclares (occurrences_of program)
 
 abbrev pub lines_unknown : Program → List Line
-lines_unknown program = lines_where uses_unknown (occurrences_of program)
+lines_unknown program = lines_where line_of uses_unknown (occurrences_of program)
 
 abbrev pub lines_const_written : Program → List Line
-lines_const_written program = lines_where writes_const (occurrences_of program)
+lines_const_written program = lines_where line_of writes_const (occurrences_of program)
 
 abbrev pub lines_loop_variable_assigned : Program → List Line
-lines_loop_variable_assigned program = lines_where assigns_loop_variable (occurrences_of program)
+lines_loop_variable_assigned program = lines_where line_of assigns_loop_variable (occurrences_of program)
 
 abbrev pub lines_scheduler_scalar_assigned : Program → List Line
-lines_scheduler_scalar_assigned program = lines_where assigns_scheduler_scalar (occurrences_of program)
+lines_scheduler_scalar_assigned program = lines_where line_of assigns_scheduler_scalar (occurrences_of program)

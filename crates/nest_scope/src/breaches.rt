@@ -1,5 +1,6 @@
 ghost use Rattle.std.specs.Prelude.{◌≡◌};
-ghost use Rattle.nest_scope.specs.Noted.{lower_where, noted, none_noted};
+ghost use Rattle.lowest_line.specs.Lowest.{lower_if};
+ghost use Rattle.nest_scope.specs.Noted.{noted, none_noted};
 
 use crate::occurrences::Occurrence;
 use lowest_line::Lowest;
@@ -85,7 +86,7 @@ impl Found {
 }
 
 fn note_where(breaks: bool, found: &mut Lowest, line: Line)
-    ensures { found.new ≡ lower_where breaks found.old line }
+    ensures { found.new ≡ lower_if breaks found.old line }
 {
     if breaks {
         found.note(line);

@@ -1,5 +1,4 @@
 ghost use Rattle.std.specs.Prelude.{◌≡◌, IfOk, OnOk, map};
-ghost use Rattle.nest_syntax.specs.Named.{IsWellNamed};
 ghost use Rattle.lowest_line.specs.Lowest.{lowest};
 ghost use Rattle.nest_scope.specs.declared.occurrences.Level.TheVariants as level;
 ghost use Rattle.nest_scope.specs.Occurrences.{bound, occurrence, read_in, in_stmt, in_arm, in_loop, in_block, in_decl, in_decls, in_regions, behind_decls, in_same_scope};
@@ -16,7 +15,6 @@ use std::alloc::Global;
 /// The lowest line that breaks each of the rules on names, found in one walk over the program: its time grows with the
 /// size of the program, whatever its names. Each rule is judged by itself, also where another one is broken.
 pub fn scope_breaches(alloc: Global, program: &Program) -> Result<ScopeBreaches, NoMemory>
-    requires { IsWellNamed program.now }
     ensures redeclared { IfOk result (λ found. found.redeclared ≡ lowest (lines_redeclared program.now)) }
     ensures unknown { IfOk result (λ found. found.unknown ≡ lowest (lines_unknown program.now)) }
     ensures const_written { IfOk result (λ found. found.const_written ≡ lowest (lines_const_written program.now)) }

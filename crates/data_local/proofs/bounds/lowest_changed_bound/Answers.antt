@@ -1,7 +1,6 @@
 use Rattle.std.proofs.Common.{map, ap, ◌∙◌}
-use Rattle.lowest_line.specs.Lowest.{lowest}
-use Rattle.data_local.specs.Bounds.{changes_its_bound}
-use Rattle.data_local.specs.Breaches.{lines_where}
+use Rattle.lowest_line.specs.Lowest.{lowest, lines_where}
+use Rattle.data_local.specs.Bounds.{line_of, changes_its_bound}
 use Rattle.data_local.proofs.Lowests.{notes_more, notes_end}
 use Rattle.data_local.proofs.bounds.lowest_changed_bound.Goals as goal
 
@@ -11,4 +10,4 @@ loop-one-preserved c = notes_more changes_its_bound _ _ c.loop-one-test.true c.o
 pub returns : goal.returns
 returns c =
     c.line.ensures ∙ notes_end changes_its_bound _ _ c.loop-one-test.false _ _ c.loop-one.invariant
-    ∙ ap (λ ls. lowest (lines_where changes_its_bound ls)) (ap (map (λ x. x.now)) c.deref-one-items.ensures.value ∙ c.in_ok-loops.ensures)
+    ∙ ap (λ ls. lowest (lines_where line_of changes_its_bound ls)) (ap (map (λ x. x.now)) c.deref-one-items.ensures.value ∙ c.in_ok-loops.ensures)

@@ -1,5 +1,5 @@
 use Rattle.std.proofs.Common.{◌≡◌, drop}
-use Rattle.nest_check.specs.Joined.{through}
+use Rattle.nest_check.specs.Through.{through}
 use Rattle.nest_check.specs.Entries.{scalars_in}
 use Rattle.nest_check.specs.Noted.{added}
 use Rattle.nest_check.proofs.items.declare_scalars.Given as goal

@@ -1,5 +1,5 @@
 use Rattle.std.proofs.Common.{◌≡◌, drop}
-use Rattle.nest_check.specs.Joined.{through}
+use Rattle.nest_check.specs.Through.{through}
 use Rattle.nest_check.specs.Noted.{region_passed}
 use Rattle.nest_check.proofs.items.pass_regions.Given as goal
 

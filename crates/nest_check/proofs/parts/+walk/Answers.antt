@@ -1,5 +1,5 @@
 use Rattle.std.proofs.Common.{map, sym, ap, ◌∙◌}
-use Rattle.nest_check.specs.Joined.{through}
+use Rattle.nest_check.specs.Through.{through}
 use Rattle.nest_check.specs.Parts.{all_at, parts}
 use Rattle.nest_check.specs.Noted.{noted}
 use Rattle.nest_check.proofs.Lists.{parts_more, parts_end}

@@ -1,5 +1,5 @@
 use Rattle.std.proofs.Common.{◌≡◌, map, drop}
-use Rattle.nest_check.specs.Joined.{through}
+use Rattle.nest_check.specs.Through.{through}
 use Rattle.nest_check.specs.Parts.{all_at, parts, parts_in_arm}
 use Rattle.nest_check.specs.Noted.{noted}
 use Rattle.nest_check.proofs.parts.+walk.Given as goal

@@ -1,5 +1,5 @@
 use Rattle.std.proofs.Common.{◌≡◌, map, drop}
-use Rattle.nest_check.specs.Joined.{through}
+use Rattle.nest_check.specs.Through.{through}
 use Rattle.nest_check.specs.Parts.{all_at, parts_in_loop}
 use Rattle.nest_check.specs.Noted.{noted}
 use Rattle.nest_check.proofs.parts.walk_regions.Given as goal

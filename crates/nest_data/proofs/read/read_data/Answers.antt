@@ -1,16 +1,21 @@
-use Rattle.std.proofs.Common.{◌≤◌, length, sum, sym, ap, subst, arith}
-use Rattle.nest_syntax.specs.Arrays.{arrays_of, sizes_of}
+use Rattle.std.proofs.Common.{◌≡◌, ℕ, ◌<◌, List, length, sym, ap, ◌∙◌, subst, arith}
+use Rattle.nest_syntax.specs.Arrays.{arrays_of}
+use Rattle.nest_syntax.specs.declared.tree.Decl.{Decl}
 use Rattle.nest_syntax.specs.declared.tree.Program.{Program}
-use Rattle.word_store.specs.Memory.{most_words}
-use Rattle.nest_data.proofs.Kept.{few_arrays, room_for_arrays}
+use Rattle.nest_check.proofs.Judged.{few_arrays as few_names}
+use Rattle.nest_data.specs.Lines.{lines_of}
+use Rattle.nest_data.specs.Data.{array_names, opening}
+use Rattle.nest_data.proofs.Told.{told}
 use Rattle.nest_data.proofs.read.read_data.Goals as goal
 
-pub read_program_data-requires-clause-few : goal.read_program_data-requires-clause-few
-read_program_data-requires-clause-few c =
-    let few = few_arrays c.args.checked.now c.program.ensures.keeps in
-    let same = ap (λ (p : Program). length (arrays_of p.decls)) c.program.ensures.same in
-    omega (arith, few, same)
+pub read_lines-requires-clause-few : goal.read_lines-requires-clause-few
+read_lines-requires-clause-few c =
+    let arrays : c.as_slice-3.result.now ≡ array_names (arrays_of c.args.checked.now.decls) =
+    c.as_slice-3.ensures.value ∙ c.in_ok-arrays.ensures ∙ ap (λ (decls : List Decl). array_names (arrays_of decls)) (c.as_slice.ensures ∙ ap (λ (p : Program). p.decls) c.program-program.ensures.same) in
+    subst (λ (ns : List ℕ). length ns < 4294967296) (sym arrays) (omega (arith, few_names c.args.checked.now c.program-program.ensures.keeps))
 
-pub read_program_data-requires-clause-room : goal.read_program_data-requires-clause-room
-read_program_data-requires-clause-room c =
-    subst (λ (p : Program). sum (sizes_of (arrays_of p.decls)) ≤ most_words) (sym c.program.ensures.same) (room_for_arrays c.args.checked.now c.program.ensures.keeps)
+pub returns-clause-told : goal.returns-clause-told
+returns-clause-told c =
+    let names = c.as_slice-2.ensures ∙ ap (λ (p : Program). p.names) c.program-program.ensures.same in
+    let arrays = c.as_slice-3.ensures.value ∙ c.in_ok-arrays.ensures ∙ ap (λ (decls : List Decl). array_names (arrays_of decls)) (c.as_slice.ensures ∙ ap (λ (p : Program). p.decls) c.program-program.ensures.same) in
+    told _ _ _ _ _ _ c.args.first_line (lines_of c.args.bytes.now) _ names arrays (c.in_ok-progress.ensures.read ∙ ap opening c.lengths.ensures) c.read_lines.ensures.told

@@ -1,6 +1,4 @@
-use Rattle.std.proofs.Common.{◌≡◌, ap, ◌∙◌, subst}
-use Rattle.std.specs.List.Sorted.{IsBinarySearchResult}
-use Rattle.data_local.specs.Names.{is_among}
+use Rattle.std.proofs.Common.{◌∙◌}
 use Rattle.data_local.proofs.Listed.{search_tells}
 use Rattle.data_local.proofs.locals.DataLocals.has.Goals as goal
 

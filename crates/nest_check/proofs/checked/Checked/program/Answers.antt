@@ -1,10 +1,16 @@
-use Rattle.std.proofs.Common.{◌≤◌, length, sum, subst}
+use Rattle.std.proofs.Common.{◌≤◌, ◌<◌, ◌^◌, length, sum, subst, arith}
 use Rattle.nest_syntax.specs.Arrays.{arrays_of, sizes_of}
 use Rattle.nest_syntax.specs.Course.{bodies_of}
 use Rattle.nest_syntax.specs.declared.tree.Program.{Program}
+use Rattle.nest_check.proofs.Distinct.{few_decls}
 use Rattle.nest_check.proofs.Few.{few_words}
 use Rattle.nest_check.proofs.Bodies.{few_bodies}
 use Rattle.nest_check.proofs.checked.Checked.program.Goals as goal
+
+pub returns-clause-few_decls : goal.returns-clause-few_decls
+returns-clause-few_decls c =
+    let few = few_decls c.self.inside.program c.self.invariant.named c.self.invariant.keeps in
+    subst (λ (p : Program). length p.decls < 2 ^ 32) c.self.view_is (let less : length c.self.inside.program.decls < 4294967296 = omega (arith, few) in less)
 
 pub returns-clause-few_bodies : goal.returns-clause-few_bodies
 returns-clause-few_bodies c = subst (λ (p : Program). length (bodies_of p) ≤ 4096) c.self.view_is (few_bodies c.self.inside.program c.self.invariant.keeps)

@@ -4,7 +4,6 @@ use Rattle.nest_check.specs.Declarations.{first_of_each, names_of, place_of_name
 use Rattle.nest_check.specs.Entries.{scheduler_scalars}
 use Rattle.nest_check.specs.Tables.{array_names}
 use Rattle.nest_check.proofs.Judged.{few_arrays, few_scalar_names}
-use Rattle.nest_check.proofs.Distinct.{few_decls}
 use Rattle.nest_check.proofs.Places.{array_place}
 use Rattle.nest_check.proofs.checked.Checked.tabled.Goals as goal
 
@@ -22,7 +21,6 @@ pub invariant_of-result : goal.invariant_of-result
 invariant_of-result c = record {
   named = c.requires.named;
   keeps = c.requires.keeps;
-  few_decls = let few : length c.args.program.decls ≤ 96 = few_decls c.args.program c.requires.named c.requires.keeps in omega (arith, few);
   lengths_are = c.in_ok-lengths.ensures ∙ ap (λ ds. sizes_of (arrays_of ds)) c.as_slice.ensures;
   arrays_are = λ name. c.in_ok-arrays.ensures name ∙ ap (λ ns. place_of_name ns name) (c.as_slice-3.ensures.value ∙ c.in_ok-array_names.ensures ∙ ap array_names c.as_slice-2.ensures) ∙ array_place c.args.program.decls name;
   scalars_are = λ name. c.in_ok-scalars.ensures name ∙ ap (λ ns. place_of_name ns name) (c.as_slice-4.ensures.value ∙ c.in_ok-scalar_names.ensures ∙ ap names_of c.requires.scalars);

@@ -1,80 +1,62 @@
-ghost use Rattle.std.specs.Prelude.{◌≡◌, ◌≤◌, length, IfOk};
-ghost use Rattle.std.specs.Prelude.{[], ◌∷◌, true, false, pos};
-
-use super::*;
-use nest_syntax::{Decl, Line, Name, Program};
-use sqlite_items::Items;
-use std::alloc::Global;
+use nest_check::{Checked, check};
+use nest_data::{DataKind, DataRefused, print_words, read_data};
+use nest_lex::lex;
+use nest_parse::parse;
+use std::alloc::{AllocError, Global};
+use std::process::Abort;
 use std::test::Fail;
 use word_store::Words;
 
-fn array(name: u32, length: u64, fixed: bool) -> Decl
-    ensures { result ≡ Decl.Array (record { 0 = 1 }) name length fixed }
-{
-    Decl::Array {
-        line: Line(1),
-        name,
-        length,
-        fixed,
+fn checked(rt: &impl Abort, alloc: Global, text: &str) -> Result<Checked, AllocError> {
+    let bytes = text.as_bytes();
+    assert!(rt; bytes.len() <= 33_554_432);
+    let Ok(tokens) = lex(alloc, bytes) else {
+        return Err(AllocError);
+    };
+    let Ok(program) = parse(alloc, &tokens) else {
+        return Err(AllocError);
+    };
+    match check(alloc, program) {
+        Ok(checked) => Ok(checked),
+        Err(_) => Err(AllocError),
     }
+}
+
+/// What data lines give a program with the arrays `a`, `ix`, which is `const`, and `b`; the first of them has the number 7.
+fn read(
+    rt: &impl Abort,
+    alloc: Global,
+    bytes: &[u8],
+) -> Result<Result<Words, DataRefused>, AllocError> {
+    let checked = checked(
+        rt,
+        alloc,
+        "long a[2]; long s = 5; const long ix[3]; long b[1];",
+    )?;
+    assert!(rt; bytes.len() <= 33_554_432);
+    Ok(read_data(alloc, bytes, 7, &checked))
 }
 
 #[test]
 fn arrays_that_are_const_have_no_line(rt: HostRuntime) -> Result<(), Fail> {
     let alloc = rt.alloc();
-    let names = [
-        Items::from_slice(alloc, b"a")?,
-        Items::from_slice(alloc, b"ix")?,
-        Items::from_slice(alloc, b"long_name")?,
-    ];
-    let decls = [array(0, 2, false), array(1, 1, true), array(2, 3, false)];
-    let mut words = Words::zeros(alloc, &[2, 1, 3])?;
-    words.store(0, 1, -12);
-    words.store(1, 0, 5);
-    words.store(2, 0, i64::MIN);
-    words.store(2, 2, 7);
-    let text = print_words(alloc, &words, &names, &decls)?;
+    let checked = checked(
+        &rt,
+        alloc,
+        "long a[2]; const long ix[1]; long long_name[3];",
+    )?;
+    let lines = b"long_name -9223372036854775808 0 7\nix 5\na 0 -12\n";
+    let Ok(words) = read_data(alloc, lines.as_slice(), 1, &checked) else {
+        return Err(AllocError.into());
+    };
+    let Ok(text) = print_words(alloc, &words, &checked) else {
+        return Err(AllocError.into());
+    };
     assert_eq!(rt;
         text.as_slice(),
         b"a 0 -12\nlong_name -9223372036854775808 0 7\n".as_slice()
     );
     Ok(())
-}
-
-/// `long a[2]; long s = 5; const long ix[3]; long b[1];`
-fn program(alloc: Global) -> Result<Program, Fail>
-    ensures { IfOk result (λ p. p.decls ≡ Decl.Array (record { 0 = 1 }) 0 2 false ∷ Decl.Scalar (record { 0 = 1 }) 3 (pos 5) ∷ Decl.Array (record { 0 = 1 }) 1 3 true ∷ Decl.Array (record { 0 = 1 }) 2 1 false ∷ []) }
-{
-    let mut names = Items::new(alloc);
-    names.push(Items::from_slice(alloc, b"a")?)?;
-    names.push(Items::from_slice(alloc, b"ix")?)?;
-    names.push(Items::from_slice(alloc, b"b")?)?;
-    names.push(Items::from_slice(alloc, b"s")?)?;
-    let mut decls = Items::new(alloc);
-    decls.push(array(0, 2, false))?;
-    decls.push(Decl::Scalar {
-        line: Line(1),
-        name: 3,
-        value: 5,
-    })?;
-    decls.push(array(1, 3, true))?;
-    decls.push(array(2, 1, false))?;
-    Ok(Program {
-        names,
-        decls,
-        regions: Items::new(alloc),
-    })
-}
-
-/// What data lines give that program; the first of them has the number 7.
-fn read(alloc: Global, bytes: &[u8]) -> Result<Result<Words, DataRefused>, Fail>
-    ensures { IfOk result (λ told. IfOk told (λ words. length words.sizes ≡ 3)) }
-{
-    let program = program(alloc)?;
-    if bytes.len() > 33_554_432 {
-        return Ok(Err(DataRefused::NoMemory));
-    }
-    Ok(read_program_data(alloc, bytes, 7, &program))
 }
 
 #[test]
@@ -112,8 +94,9 @@ fn the_words_are_those_of_the_lines(rt: HostRuntime) -> Result<(), Fail> {
         (b"\r\nb 1", [0, 0], [0, 0, 0], [1]),
     ];
     for (bytes, a, ix, b) in cases {
-        match read(alloc, bytes)? {
+        match read(&rt, alloc, bytes)? {
             Ok(words) => {
+                assert!(rt; words.arrays() == 3);
                 assert_eq!(rt; words.array(0), a.as_slice());
                 assert_eq!(rt; words.array(1), ix.as_slice());
                 assert_eq!(rt; words.array(2), b.as_slice());
@@ -162,7 +145,7 @@ fn the_first_fault_is_told(rt: HostRuntime) -> Result<(), Fail> {
         (b"b 1 \x0b\n", DataKind::Number, 7),
     ];
     for (bytes, kind, line) in cases {
-        match read(alloc, bytes)? {
+        match read(&rt, alloc, bytes)? {
             Ok(_) => assert!(rt; false),
             Err(refused) => assert_eq!(rt; refused, DataRefused::Line { kind, line }),
         }

@@ -3,10 +3,10 @@ use Rattle.nest_syntax.specs.Arrays.{arrays_of}
 use Rattle.nest_syntax.specs.declared.tree.Decl.{Decl}
 use Rattle.nest_syntax.specs.declared.tree.Program.{Program}
 use Rattle.nest_data.proofs.Kept.{few_arrays}
-use Rattle.nest_data.proofs.print.print_checked_words.Goals as goal
+use Rattle.nest_data.proofs.print.print_words.Goals as goal
 
-pub print_words-requires-clause-few : goal.print_words-requires-clause-few
-print_words-requires-clause-few c =
+pub print_lines-requires-clause-few : goal.print_lines-requires-clause-few
+print_lines-requires-clause-few c =
     let few = few_arrays c.args.checked.now c.program-program.ensures.keeps in
     let same = ap (λ (decls : List Decl). length (arrays_of decls)) c.as_slice-2.ensures ∙ ap (λ (p : Program). length (arrays_of p.decls)) c.program-program.ensures.same in
     omega (arith, few, same)

@@ -1,7 +1,7 @@
 use Rattle.std.proofs.Common.{◌≡◌, ◌+◌, ◌++◌, drop, length}
 use Rattle.nest_syntax.specs.Arrays.{arrays_of}
 use Rattle.nest_data.specs.Text.{array_lines}
-use Rattle.nest_data.proofs.print.print_words.Given as goal
+use Rattle.nest_data.proofs.print.print_lines.Given as goal
 
 -- what is written and the lines that are left are all lines; the number counts the arrays passed
 abbrev pub invariant-loop-decl : goal.invariant-loop-decl
