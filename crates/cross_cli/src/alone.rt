@@ -12,7 +12,7 @@ use crate::report::domore_report;
 use crate::status::Status;
 use domore_engine::Domore;
 use lone_crew::lone_run;
-use nest_data::print_checked_words;
+use nest_data::print_words;
 use nest_mean::Job;
 use nest_report::print_place;
 use nest_syntax::NoMemory;
@@ -86,6 +86,6 @@ fn arrays_text(alloc: Global, job: &Job, words: &Words) -> Result<Vec<u8>, NoMem
     requires { words.now.sizes ≡ job.now.opening.sizes }
     ensures { IfOk result (λ text. text.items ≡ array_lines job.now.program.names words.now 0 job.now.program.decls) }
 {
-    let text = print_checked_words(alloc, words, job.checked())?;
+    let text = print_words(alloc, words, job.checked())?;
     Ok(text)
 }

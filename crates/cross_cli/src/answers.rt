@@ -10,7 +10,7 @@ use crate::status::Status;
 use crate::words::Action;
 use first_form::is_first_form;
 use nest_check::Checked;
-use nest_data::print_checked_words;
+use nest_data::print_words;
 use nest_input::{InputRefused, Refusal, read_nest, read_words};
 use nest_mean::{Job, Outcome, run_plain};
 use nest_print::print_program;
@@ -139,7 +139,7 @@ fn plain(alloc: Global, job: &Job) -> Result<Reply, NoMemory>
 {
     match run_plain(alloc, job)? {
         Outcome::Done(words) => {
-            let text = print_checked_words(alloc, &words, job.checked())?;
+            let text = print_words(alloc, &words, job.checked())?;
             Ok(Reply {
                 status: Status::Done,
                 text,
