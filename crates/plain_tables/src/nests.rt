@@ -1,7 +1,7 @@
 use crate::told::told;
 use std::test::Fail;
 
-const SCATTER: &str = "long a[4];
+pub(crate) const SCATTER: &str = "long a[4];
 const long ix[4];
 for (long t = 0; t < 2; t++) {
   for (long i = 0; i < 4; i++) {
