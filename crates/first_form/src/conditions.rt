@@ -1,3 +1,4 @@
+//! The conditions on the expressions of a program of the first form.
 ghost use Rattle.std.specs.Prelude.{◌≡◌, ◌+◌, ◌<◌, MatchOption};
 ghost use Rattle.nest_syntax.specs.FirstForm.{is_arithmetic, is_allowed, operators};
 
@@ -44,23 +45,23 @@ fn is_arithmetic(op: Bin) -> bool
     }
 }
 
-/// What is left of a number behind the operators of an expression, none where it has more.
-pub(crate) fn left_by(expr: &Expr, left: usize) -> Option<usize>
-    ensures { MatchOption result (left < operators expr.now) (λ rest. rest + operators expr.now ≡ left) }
+/// How many of `most` operators are left behind those of an expression, none where it has more.
+pub(crate) fn operators_left(expr: &Expr, most: usize) -> Option<usize>
+    ensures { MatchOption result (most < operators expr.now) (λ rest. rest + operators expr.now ≡ most) }
 {
     match expr {
-        Expr::Number(_) => Some(left),
-        Expr::Scalar(_) => Some(left),
-        Expr::Word(_, place) => left_by(place.get(), left),
-        Expr::Unary(_, part) => left_by(part.get(), left)?.checked_sub(1),
+        Expr::Number(_) => Some(most),
+        Expr::Scalar(_) => Some(most),
+        Expr::Word(_, place) => operators_left(place.get(), most),
+        Expr::Unary(_, part) => operators_left(part.get(), most)?.checked_sub(1),
         Expr::Binary(_, first, second) => {
-            let behind = left_by(first.get(), left)?;
-            left_by(second.get(), behind)?.checked_sub(1)
+            let behind_first = operators_left(first.get(), most)?;
+            operators_left(second.get(), behind_first)?.checked_sub(1)
         }
         Expr::Choice(test, first, second) => {
-            let behind_test = left_by(test.get(), left)?;
-            let behind_first = left_by(first.get(), behind_test)?;
-            left_by(second.get(), behind_first)?.checked_sub(1)
+            let behind_test = operators_left(test.get(), most)?;
+            let behind_first = operators_left(first.get(), behind_test)?;
+            operators_left(second.get(), behind_first)?.checked_sub(1)
         }
     }
 }

@@ -1,3 +1,4 @@
+//! The shape of a program of the first form, and what is read out of it.
 ghost use Rattle.std.specs.Prelude.{◌≡◌, ◌≢◌, ◌↔◌, ◌+◌, ◌≤◌, ◌&&◌, true, ℕ, pos, IsTrue, IsSome, IsSomeAnd, IfSome, Some, false, MatchOption, List, [], ◌∷◌};
 ghost use Rattle.nest_syntax.specs.declared.names.Line.{Line as At};
 ghost use Rattle.nest_syntax.specs.declared.tree.Expr.{Expr as Expression};
@@ -6,7 +7,7 @@ ghost use Rattle.nest_syntax.specs.FirstForm.{First, Turns, IsKept, loop_of, dec
 ghost use Rattle.first_form.specs.Shape.{ReadsHeader, turns_of, first_in};
 ghost use Rattle.first_form.specs.Spelled.{IsSpelledFirst, level};
 
-use crate::conditions::{Names, left_by};
+use crate::conditions::{Names, operators_left};
 use crate::spelled::level;
 use nest_syntax::{Decl, Expr, Line, Loop, Op, Program, Stmt};
 
@@ -179,8 +180,8 @@ impl Parts<'_> {
     fn has_few_operators(&self) -> bool
         ensures { IsTrue result ↔ (operators self.now.place.now + operators self.now.value.now ≤ 12) }
     {
-        match left_by(self.place, MOST_OPERATORS) {
-            Some(left) => left_by(self.value, left).is_some(),
+        match operators_left(self.place, MOST_OPERATORS) {
+            Some(left) => operators_left(self.value, left).is_some(),
             None => false,
         }
     }

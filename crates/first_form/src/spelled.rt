@@ -1,3 +1,4 @@
+//! Expressions that are spelled without parentheses.
 ghost use Rattle.std.specs.Prelude.{◌≡◌};
 ghost use Rattle.first_form.specs.Spelled.{is_within, level_of, level};
 
