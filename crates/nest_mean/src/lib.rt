@@ -1,6 +1,6 @@
 //! The meaning of a nest, run in textual order.
 //!
-//! In come a program and its opening words, out goes the outcome that the definitions of `nest_syntax` give them: the
+//! In come a checked program and its opening words, out goes the outcome that the definitions of `nest_syntax` give them: the
 //! final words, or the place of the first trap.
 #![tactic(auto)]
 
