@@ -14,7 +14,7 @@ use Rattle.cross_cli.specs.declared.status.Status.TheVariants as status
 use Rattle.cross_cli.specs.declared.top.Unanswered.{Unanswered}
 use Rattle.cross_cli.specs.declared.words.Action.{Action}
 use Rattle.cross_cli.specs.Answers.{Answer, refusal, refused_answer, alone_answer, job_of, AnswersAlone, runs, no_form, AnswersData, AnswersProgram, AnswersInput, too_long, a_text}
-use Rattle.cross_cli.specs.Ends.{IsDueTo}
+use Rattle.cross_cli.specs.Ends.{IsDueTo, TakesInput}
 
 -- the answer to a nest that is a program
 pub program_answered : (r : Result Answer NoMemory) (action : Action) (input : List ℕ) (program : Program) → length input ≤ MOST_BYTES → SaysNest input (Ok program) → IfOk r (λ reply. AnswersProgram action input program reply) → IfOk r (λ reply. AnswersInput action input reply)
@@ -49,6 +49,11 @@ formless_answered (Err e) program words none h = tt
 -- a job has the sizes of its program
 pub own_job : (nest : Nest) → nest.opening.sizes ≡ sizes_of (arrays_of nest.program.decls) → nest ≡ job_of nest.program nest.opening.words
 own_job nest sizes = λ i. record { program = nest.program; opening = record { sizes = sizes i; words = nest.opening.words } }
+
+-- the answer to an input that was taken whole
+pub taken_is_due : (s : Result Answer Unanswered) (r : Result Answer NoMemory) (action : Action) (old new : Option (List ℕ)) (e : Unanswered) → MatchResult r (λ reply. s ≡ Ok reply) (λ _. s ≡ Err e) → (input : List ℕ) → IfOk r (λ reply. AnswersInput action input reply) → TakesInput old new input → IfOk s (λ reply. IsDueTo (Some action) old new reply)
+taken_is_due s (Ok reply) action old new e is input h takes = subst (λ t. IfOk t (λ a. IsDueTo (Some action) old new a)) (sym is) (input, takes, h)
+taken_is_due s (Err x) action old new e is input h takes = subst (λ t. IfOk t (λ a. IsDueTo (Some action) old new a)) (sym is) tt
 
 -- the answer to an input that is too long
 pub long_is_due : (s : Result Answer Unanswered) (r : Result Answer NoMemory) (action : Action) (old new : Option (List ℕ)) (e : Unanswered) → MatchResult r (λ reply. s ≡ Ok reply) (λ _. s ≡ Err e) → IfOk r (λ reply. reply ≡ refusal status.TextRefused (codes "too long")) → (more : List ℕ) → length more ≡ MOST_BYTES + 1 → Consumes old new more → IfOk s (λ reply. IsDueTo (Some action) old new reply)

@@ -1,7 +1,13 @@
-use Rattle.std.proofs.Common.{ap, Err}
+use Rattle.std.proofs.Common.{ap, subst, Err, IfOk, List, ℕ}
 use Rattle.nest_io.specs.declared.fault.TakeFault.{TakeFault}
-use Rattle.cross_cli.proofs.Replies.{long_is_due}
+use Rattle.cross_cli.specs.Answers.{AnswersInput}
+use Rattle.cross_cli.proofs.Replies.{taken_is_due, long_is_due}
 use Rattle.cross_cli.proofs.top.answer_source.Goals as goal
+
+pub returns-in-Ok-clause-due : goal.returns-in-Ok-clause-due
+returns-in-Ok-clause-due g c =
+    let answers = subst (λ (input : List ℕ). IfOk c.answer_input.result (λ reply. AnswersInput c.args.action input reply)) c.as_slice.ensures.value c.answer_input.ensures in
+    taken_is_due c.or_no_memory.result c.answer_input.result c.args.action _ _ _ c.or_no_memory.ensures c.in-Ok.input.items answers (record { taken = c.in-Ok.ensures.all; whole = λ few. c.in-Ok.ensures.end })
 
 pub returns-in-Err-TooLong-clause-due : goal.returns-in-Err-TooLong-clause-due
 returns-in-Err-TooLong-clause-due g c =
