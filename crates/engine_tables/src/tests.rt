@@ -1,4 +1,4 @@
-ghost use Rattle.std.specs.Prelude.{◌≡◌, ◌≤◌, IfOk};
+ghost use Rattle.std.specs.Prelude.{◌≡◌, ◌≤◌, IfOk, IsTrue};
 ghost use Rattle.nest_syntax.specs.Arrays.{arrays_of, sizes_of};
 ghost use Rattle.nest_syntax.specs.FirstForm.{IsFirstForm};
 ghost use Rattle.progress_board.specs.Options.{IsInRange};
@@ -76,13 +76,20 @@ fn words_of(
     }
 }
 
+// Whether a program is of the first form.
+fn is_first(checked: &Checked) -> bool
+    ensures { IsTrue result → IsFirstForm checked.now }
+{
+    is_first_form(checked.program())
+}
+
 // The job of an input whose program is of the first form.
 fn job_of(rt: &impl Abort, alloc: Global, input: &[u8]) -> Result<Job, NoMemory>
     ensures { IfOk result (λ job. IsFirstForm job.program) }
 {
     let checked = program_of(rt, alloc, input)?;
-    assert!(rt; is_first_form(checked.program()));
     let words = words_of(rt, alloc, input, &checked)?;
+    assert!(rt; is_first(&checked));
     Ok(Job::new(checked, words))
 }
 
@@ -116,20 +123,25 @@ fn open(
     Domore::open(alloc, job, options(workers, queue))
 }
 
-fn ask<M: Machine>(rt: &impl Abort, machine: &M, actor: u8) -> Ask {
+// Drives a machine to its end. That a machine may cross threads is proved here alone.
+fn run(machine: &mut Domore, schedule: &[u8], history: &mut Vec<u8>) -> Result<(), NoMemory> {
+    lone_run(machine, schedule, history)
+}
+
+fn ask(rt: &impl Abort, machine: &Domore, actor: u8) -> Ask {
     let options = *machine.options();
     assert!(rt; actor as u16 <= options.workers as u16 + 1);
     machine.ask(actor)
 }
 
-fn give<M: Machine>(rt: &impl Abort, machine: &mut M, actor: u8, row: Row) -> Result<u64, Ask> {
+fn give(rt: &impl Abort, machine: &mut Domore, actor: u8, row: Row) -> Result<u64, Ask> {
     let options = *machine.options();
     assert!(rt; actor as u16 <= options.workers as u16 + 1);
     let made = machine.give(actor, Given::Turn(row))?;
     Ok(made.number)
 }
 
-fn has_words<M: Machine>(rt: &impl Abort, machine: &M, wanted: &[i64]) {
+fn has_words(rt: &impl Abort, machine: &Domore, wanted: &[i64]) {
     assert_eq!(rt; machine.words().arrays(), 1);
     assert_eq!(rt; machine.words().array(0), wanted);
 }
@@ -150,7 +162,7 @@ fn the_least_trap_is_the_ending(rt: HostRuntime) -> Result<(), Fail> {
     let mut machine = open(&rt, rt.alloc(), BEYOND, 2, 16)?;
     let mut history = Vec::new(rt.alloc());
     let schedule = [2, 2, 2, 2, 2, 2, 2, 1, 1, 1, 1, 1, 0, 0];
-    lone_run(&mut machine, &schedule, &mut history)?;
+    run(&mut machine, &schedule, &mut history)?;
     let least = Place {
         cause: Cause::Index,
         line: Line(4),
@@ -166,7 +178,7 @@ fn the_least_trap_is_the_ending(rt: HostRuntime) -> Result<(), Fail> {
 fn a_report_lists_the_waits(rt: HostRuntime) -> Result<(), Fail> {
     let mut machine = open(&rt, rt.alloc(), MIRRORED, 2, 16)?;
     let mut history = Vec::new(rt.alloc());
-    lone_run(&mut machine, &[], &mut history)?;
+    run(&mut machine, &[], &mut history)?;
     let facts = *machine.facts();
     assert_eq!(rt; counts(&facts), (2, 8, 0, 6, 2));
     let waits = [
@@ -196,7 +208,7 @@ fn the_words_are_those_of_textual_order(rt: HostRuntime) -> Result<(), Fail> {
     for (workers, queue, waits, crossing) in [(1, 1, 0, 0), (2, 16, 6, 2), (8, 1, 12, 8)] {
         let mut machine = open(&rt, rt.alloc(), MIRRORED, workers, queue)?;
         let mut history = Vec::new(rt.alloc());
-        lone_run(&mut machine, &[], &mut history)?;
+        run(&mut machine, &[], &mut history)?;
         assert_eq!(rt; machine.ending(), Ending::Done);
         has_words(&rt, &machine, &[13, 14, 26, 26]);
         assert_eq!(rt;
@@ -214,7 +226,7 @@ fn a_run_starts_at_the_words_of_the_data_lines(rt: HostRuntime) -> Result<(), Fa
     let mut machine = open(&rt, rt.alloc(), MIRRORED_ON_WORDS, 2, 16)?;
     has_words(&rt, &machine, &[1, 2, 3, 4]);
     let mut history = Vec::new(rt.alloc());
-    lone_run(&mut machine, &[], &mut history)?;
+    run(&mut machine, &[], &mut history)?;
     has_words(&rt, &machine, &[17, 17, 29, 30]);
     Ok(())
 }

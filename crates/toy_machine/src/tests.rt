@@ -51,13 +51,18 @@ fn open(rt: &impl Abort, alloc: Global, workers: u8, queue: u16) -> Result<Relay
     Ok(Relay::open(job(rt, alloc)?, options(workers, queue)))
 }
 
-fn ask<M: Machine>(rt: &impl Abort, machine: &M, actor: u8) -> Ask {
+// Drives a machine to its end. That a machine may cross threads is proved here alone.
+fn run(machine: &mut Relay, schedule: &[u8], history: &mut Vec<u8>) -> Result<(), NoMemory> {
+    lone_run(machine, schedule, history)
+}
+
+fn ask(rt: &impl Abort, machine: &Relay, actor: u8) -> Ask {
     let options = *machine.options();
     assert!(rt; actor as u16 <= options.workers as u16 + 1);
     machine.ask(actor)
 }
 
-fn give<M: Machine>(rt: &impl Abort, machine: &mut M, actor: u8, row: Row) -> Option<u64> {
+fn give(rt: &impl Abort, machine: &mut Relay, actor: u8, row: Row) -> Option<u64> {
     let options = *machine.options();
     assert!(rt; actor as u16 <= options.workers as u16 + 1);
     match machine.give(actor, Given::Turn(row)) {
@@ -70,7 +75,7 @@ fn give<M: Machine>(rt: &impl Abort, machine: &mut M, actor: u8, row: Row) -> Op
 }
 
 // Makes the steps of a history on a machine, each of which has to be enabled.
-fn make_all<M: Machine>(rt: &impl Abort, machine: &mut M, history: &[u8]) {
+fn make_all(rt: &impl Abort, machine: &mut Relay, history: &[u8]) {
     for actor in history {
         let answer = ask(rt, machine, *actor);
         assert!(rt; answer != Ask::Ended, "at {actor}");
@@ -107,7 +112,7 @@ fn the_rotation_goes_on_behind_the_schedule(rt: HostRuntime) -> Result<(), Fail>
     for (workers, queue, schedule, wanted) in cases {
         let mut machine = open(&rt, rt.alloc(), workers, queue)?;
         let mut history = Vec::new(rt.alloc());
-        lone_run(&mut machine, schedule, &mut history)?;
+        run(&mut machine, schedule, &mut history)?;
         assert_eq!(rt;
             history.as_slice(),
             wanted,
@@ -123,9 +128,9 @@ fn the_rotation_goes_on_behind_the_schedule(rt: HostRuntime) -> Result<(), Fail>
 fn a_history_agrees_with_its_machine(rt: HostRuntime) -> Result<(), Fail> {
     let mut machine = open(&rt, rt.alloc(), 2, 40)?;
     let mut history = Vec::new(rt.alloc());
-    if lone_run(&mut machine, &[2, 2], &mut history).is_err() {
+    if run(&mut machine, &[2, 2], &mut history).is_err() {
         assert!(rt; !finishes(&rt, rt.alloc(), 2, 40, history.as_slice())?);
-        lone_run(&mut machine, &[], &mut history)?;
+        run(&mut machine, &[], &mut history)?;
     }
     assert!(rt; finishes(&rt, rt.alloc(), 2, 40, history.as_slice())?);
     assert_eq!(rt; history.len(), 81);
@@ -139,7 +144,7 @@ fn reserved_steps_take_no_memory(rt: HostRuntime) -> Result<(), Fail> {
     let mut history = Vec::new(rt.alloc());
     history.reserve(7)?;
     let capacity = history.capacity();
-    lone_run(&mut machine, &[], &mut history)?;
+    run(&mut machine, &[], &mut history)?;
     assert_eq!(rt; (history.len(), history.capacity()), (7, capacity));
     Ok(())
 }
