@@ -1,12 +1,12 @@
 -- An input has one answer, as it says one thing.
-use Rattle.std.proofs.Common.{◌≡◌, ℕ, ℤ, Result, Ok, Err, List, length, sym, subst, ◌∙◌, arith}
+use Rattle.std.proofs.Common.{◌≡◌, ℕ, ℤ, Result, Ok, Err, List, sym, subst, ◌∙◌, arith}
 use Rattle.nest_syntax.specs.declared.tree.Program.{Program}
 use Rattle.word_store.specs.Memory.{Memory}
 use Rattle.nest_input.specs.declared.refused.Refusal.{Refusal}
 use Rattle.nest_input.specs.Input.{SaysNest, SaysWords}
 use Rattle.cross_cli.specs.declared.words.Action.{Action}
 use Rattle.cross_cli.specs.declared.words.Action.TheVariants.{Plain, Check, Alone}
-use Rattle.cross_cli.specs.Answers.{Answer, AnswersPlain, AnswersAlone, runs, no_form, AnswersWords, AnswersData, AnswersProgram, AnswersNest, AnswersInput, too_long, a_text, OneAnswer}
+use Rattle.cross_cli.specs.Answers.{Answer, AnswersPlain, AnswersAlone, runs, no_form, AnswersWords, AnswersData, AnswersProgram, AnswersNest, too_long, a_text, OneAnswer}
 
 -- to each list of words there is one answer
 abbrev IsOne : (List ℤ → Answer → Type 0) → Type 0

@@ -1,5 +1,5 @@
 -- What a finished engine tells is what is due: the outcome of textual order, and the facts of the nest.
-use Rattle.std.proofs.Common.{◌≡◌, ℕ, true, ◌++◌, ◌≤◌, ℤ, Result, Ok, Err, IfOk, length, ◌∷◌, List, [], Option, None, Some, refl, sym, subst, ap, ◌∙◌, arith}
+use Rattle.std.proofs.Common.{◌≡◌, ℕ, true, ◌++◌, ℤ, Result, Ok, Err, IfOk, List, [], Option, None, Some, refl, sym, subst, ap, ◌∙◌, arith}
 use Rattle.std.specs.Option.{option_map_or}
 use Rattle.std.proofs.lemmas.Bool.{cond-true}
 use Rattle.nest_syntax.specs.declared.place.Place.{Place}
