@@ -1,7 +1,7 @@
 //! The meaning of a nest, run in textual order.
 //!
-//! In come a checked program and its opening words, out goes the outcome that the definitions of `nest_syntax` give them: the
-//! final words, or the place of the first trap.
+//! In come a checked program and its opening words, out goes the outcome that the definitions of `nest_syntax` give
+//! them: the final words, or the place of the first trap. Memory is taken before the first region, and none behind it.
 #![tactic(auto)]
 
 mod bodies;
