@@ -84,6 +84,11 @@ stands_at [] n body is = cc
 stands_at (b ∷ bodies) zero body is = cc
 stands_at (b ∷ bodies) (suc n) body is = stands_at bodies n body is
 
+stands_within : (bodies : List (List Stmt)) (n : ℕ) (body : List Stmt) → at_number bodies n ≡ Ok body → n < length bodies
+stands_within [] n body is = cc
+stands_within (b ∷ bodies) zero body is = omega arith
+stands_within (b ∷ bodies) (suc n) body is = let within : n < length bodies = stands_within bodies n body is in omega (arith, within)
+
 passes_all : (bodies : List (List Stmt)) (n left : ℕ) → at_number bodies n ≡ Err left → length bodies ≤ n
 passes_all [] n left is = omega arith
 passes_all (b ∷ bodies) zero left is = cc
@@ -94,3 +99,6 @@ body_is program regions n body same found = stands_at (bodies_of program) n body
 
 pub too_many : (program : Program) (regions : List Loop) (n left : ℕ) → regions ≡ program.regions → at_number (flat_map bodies_in_region regions) n ≡ Err left → length (bodies_of program) ≤ n
 too_many program regions n left same passed = passes_all (bodies_of program) n left (ap (λ bs. at_number bs n) (program_bodies program) ∙ ap (λ rs. at_number (flat_map bodies_in_region rs) n) (sym same) ∙ passed)
+
+pub is_there : (program : Program) (regions : List Loop) (n : ℕ) (body : List Stmt) → regions ≡ program.regions → at_number (flat_map bodies_in_region regions) n ≡ Ok body → n < length (bodies_of program)
+is_there program regions n body same found = stands_within (bodies_of program) n body (ap (λ bs. at_number bs n) (program_bodies program) ∙ ap (λ rs. at_number (flat_map bodies_in_region rs) n) (sym same) ∙ found)

@@ -1,4 +1,4 @@
-ghost use Rattle.std.specs.Prelude.{◌≡◌, ◌<◌, ℕ, ℤ, pos, List, [], ◌∷◌, map, length, FitsSigned, IfOk, false};
+ghost use Rattle.std.specs.Prelude.{◌≡◌, ◌↔◌, ◌<◌, IsTrue, ℕ, ℤ, pos, List, [], ◌∷◌, map, length, FitsSigned, IfOk, false};
 ghost use Rattle.std.specs.Int.{w64};
 ghost use Rattle.std.specs.List.{concat};
 ghost use Rattle.nest_syntax.specs.declared.tree.Stmt.TheOpen.{Stmt-F};
@@ -28,7 +28,7 @@ pub struct TurnTrap {
     pub line: Line,
 }
 
-/// Runs one iteration of the body with this number. At a trap the words stand as they were at that moment. Each name
+/// Runs one iteration of the body with this number, which `has_body` has. At a trap the words stand as they were at that moment. Each name
 /// that the body neither declares nor assigns nor has as a loop's variable keeps its scalar; the others stand changed.
 pub fn run_turn(
     checked: &Checked,
@@ -47,6 +47,16 @@ pub fn run_turn(
     match body_in_regions(checked.program().regions.as_slice(), body) {
         Ok(stmts) => run_body(stmts, scalars, words, checked),
         Err(_) => Ok(()),
+    }
+}
+
+/// Whether there is a body with this number; they are numbered from 0 in textual order.
+pub fn has_body(checked: &Checked, body: u32) -> bool
+    ensures { IsTrue result ↔ (body < length (bodies_of checked.now)) }
+{
+    match body_in_regions(checked.program().regions.as_slice(), body) {
+        Ok(_) => true,
+        Err(_) => false,
     }
 }
 
@@ -278,8 +288,8 @@ fn value_of(
     }
 }
 
-// How often a loop turns. A step of 0 has the count that the definition gives it: no turn below the high bound, and one
-// through it.
+// How often a loop turns. A step of 0, which no checked program has, has the count that the definition gives it: no turn
+// below the high bound, and one through it.
 pub(crate) fn turns_of(low: i64, high: i64, step: u64, through: bool) -> Result<u64, Cause>
     ensures count { result ≡ counted (turns low high step through) }
     ensures reach { IfOk result (λ n. (k : ℕ) → k < n → FitsSigned w64 (variable low step k)) }

@@ -36,6 +36,7 @@ impl Job {
         requires { words.sizes ≡ sizes_of (arrays_of checked.decls) }
         ensures { result ≡ record { program = checked; opening = words } }
     {
+        // It tells what the invariant needs: there are few declarations and bodies.
         let _program = checked.program();
         Job { checked, words }
     }

@@ -17,7 +17,7 @@ mod run_scalars;
 mod saved;
 mod values;
 
-pub use bodies::{TurnTrap, run_turn};
+pub use bodies::{TurnTrap, has_body, run_turn};
 pub use expressions::eval;
 pub use jobs::Job;
 pub use nest_syntax::Place;
