@@ -75,17 +75,8 @@ fn told(alloc: Global, machine: &Domore, history: Vec<u8>) -> Result<Reply, NoMe
 fn done_text(alloc: Global, machine: &Domore) -> Result<Vec<u8>, NoMemory>
     ensures { IfOk result (λ text. text.items ≡ done_text machine.now) }
 {
-    let mut text = arrays_text(alloc, machine.job(), machine.words())?;
+    let mut text = print_words(alloc, machine.words(), machine.job().checked())?;
     let report = domore_report(alloc, machine.facts())?;
     text.extend_from_slice(report.as_slice())?;
-    Ok(text)
-}
-
-/// The arrays of a job, with these words.
-fn arrays_text(alloc: Global, job: &Job, words: &Words) -> Result<Vec<u8>, NoMemory>
-    requires { words.now.sizes ≡ job.now.opening.sizes }
-    ensures { IfOk result (λ text. text.items ≡ array_lines job.now.program.names words.now 0 job.now.program.decls) }
-{
-    let text = print_words(alloc, words, job.checked())?;
     Ok(text)
 }

@@ -10,7 +10,7 @@ mod laws;
 mod refusals;
 mod report;
 #[cfg(test)]
-mod rows;
+mod nests;
 mod status;
 #[cfg(test)]
 mod tests;

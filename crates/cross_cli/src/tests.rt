@@ -1,6 +1,6 @@
 ghost use Rattle.std.specs.Prelude.{◌<◌};
 
-use crate::rows::*;
+use crate::nests::*;
 use crate::{Ended, Status, cross_quiet};
 use nest_io::{MOST_BYTES, MemorySink, MemorySource};
 use std::alloc::Global;
@@ -73,6 +73,7 @@ fn plain_prints_the_outcome(rt: HostRuntime) -> Result<(), Fail> {
         (SUBSCRIPT, SUBSCRIPT_DATA, "p 2 0\na 8 0 7\n"),
         (DRAIN, "", "n 3\na 1 2 3 0\n"),
         (SMOOTH, SMOOTH_DATA, "x 4 14 20 16\ny 0 14 22 0\n"),
+        (LONGEST, "", "a 0\n"),
         // A nest may be empty.
         ("", "", ""),
     ];
@@ -207,24 +208,6 @@ fn other_words_are_refused(rt: HostRuntime) -> Result<(), Fail> {
         let none = (Vec::new(alloc), Vec::new(alloc));
         let run = run(alloc, words, text(alloc, FIRST, "")?, (1000, 1000), none)?;
         check(&rt, &run, Status::WordsRefused, "refused: words\n");
-    }
-    Ok(())
-}
-
-#[test]
-fn a_loop_may_have_so_many_turns(rt: HostRuntime) -> Result<(), Fail> {
-    let alloc = rt.alloc();
-    let cases = [
-        (LONGEST, Status::Done, "a 0\n"),
-        (
-            TOO_MANY_TURNS,
-            Status::Trapped,
-            "trap loop line 3 before iteration 0\n",
-        ),
-    ];
-    for (nest, status, written) in cases {
-        let run = run_word(alloc, "plain", text(alloc, nest, "")?)?;
-        check(&rt, &run, status, written);
     }
     Ok(())
 }

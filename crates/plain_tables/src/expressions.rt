@@ -1,7 +1,7 @@
 use crate::told::told;
 use std::test::Fail;
 
-/// The statement of a region's one item, on the words `m` and `a`.
+/// What stands before the items, over the words `a` and `m`.
 const HEAD: &str = "long a[6]; const long m[2];
 for (long t = 0; t < 1; t++) {
 ";

@@ -13,3 +13,5 @@ mod nests;
 mod told;
 #[cfg(test)]
 mod traps;
+#[cfg(test)]
+mod turns;

@@ -13,54 +13,6 @@ a 1 2 3 4
 ix 0 0 2 3
 ";
 
-const DATA_SUBSCRIPT: &str = "long p[2];
-long a[3];
-for (long t = 0; t < 1; t++) {
-  for (long i = 0; i < 2; i++) {
-    a[p[i]] = i + 7;
-  }
-}
-data
-p 2 0
-";
-
-const DRAIN: &str = "long n[1];
-long a[4];
-for (long t = 0; t < 1; t++) {
-  n[0] = 3;
-  for (long i = 0; i < n[0]; i++) {
-    a[i] = i + 1;
-  }
-}
-";
-
-const MOST_TURNS: &str = "long a[1];
-for (long t = 0; t < 1; t++) {
-  for (long i = 0; i < 16777216; i++) {
-  }
-}
-";
-
-const SMOOTH: &str = "/* smooth and clip */
-long x[4];
-long y[4];
-const long w[4];
-long gain = 2;
-for (long t = 0; t < 2; t += 1) {
-  for (long i = 1; i <= 2; i++) {
-    long s = x[i - 1] + x[i + 1];
-    y[i] = s / 2 + w[i] * gain;   // gather
-  }
-  for (long i = 1; i <= 2; i++) {
-    if (y[i] > 20) { x[i] = 20; } else { x[i] = y[i]; }
-  }
-  gain += 1;
-}
-data
-x 4 8 12 16
-w 0 1 3 0
-";
-
 const ARMS_OF_ITEMS: &str = "long a[4];
 long s = 5;
 for (long t = 0; t <= 3; t++) {
@@ -115,10 +67,6 @@ fn nests_come_to_their_words(rt: HostRuntime) -> Result<(), Fail> {
     let alloc = rt.alloc();
     let cases = [
         (SCATTER, "a 7 2 6 7\n"),
-        (DATA_SUBSCRIPT, "p 2 0\na 8 0 7\n"),
-        (DRAIN, "n 3\na 1 2 3 0\n"),
-        (MOST_TURNS, "a 0\n"),
-        (SMOOTH, "x 4 14 20 16\ny 0 14 22 0\n"),
         (ARMS_OF_ITEMS, "a 5 3 30 300\n"),
         (ARMS_OF_BODIES, "a 1 2 2 3\n"),
         (STEPS, "a 9 1 0 3 0 6 0 3\n"),

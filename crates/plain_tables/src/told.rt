@@ -1,8 +1,8 @@
 use nest_check::Checked;
 use nest_data::print_words;
 use nest_input::{read_nest, read_words};
-use nest_mean::{Job, Outcome, Place, run_plain};
-use nest_syntax::Cause;
+use nest_mean::{Job, Outcome, run_plain};
+use nest_report::print_place;
 use std::alloc::{AllocError, Global};
 use std::process::Abort;
 use word_store::Words;
@@ -39,7 +39,7 @@ pub(crate) fn lines(
     }
 }
 
-/// What the run of a job comes to: the lines of its written arrays, or the place of its trap.
+/// What the run of a job comes to: the lines of its written arrays, or the line of its trap.
 pub(crate) fn outcome_text(
     rt: &impl Abort,
     alloc: Global,
@@ -47,9 +47,10 @@ pub(crate) fn outcome_text(
 ) -> Result<Vec<u8>, AllocError> {
     match run_plain(alloc, job) {
         Ok(Outcome::Done(words)) => lines(rt, alloc, &words, job.checked()),
-        Ok(Outcome::Trapped(place)) => {
-            Vec::from_slice(alloc, place_text(alloc, place)?.as_bytes())
-        }
+        Ok(Outcome::Trapped(place)) => match print_place(alloc, &place) {
+            Ok(text) => Ok(text),
+            Err(_) => Err(AllocError),
+        },
         Err(_) => Err(AllocError),
     }
 }
@@ -60,18 +61,4 @@ pub(crate) fn told(rt: &impl Abort, alloc: Global, input: &str) -> Result<Vec<u8
         Some(job) => outcome_text(rt, alloc, &job),
         None => Vec::from_slice(alloc, b"refused"),
     }
-}
-
-fn place_text(alloc: Global, place: Place) -> Result<String, AllocError> {
-    let cause = match place.cause {
-        Cause::Divide => "divide",
-        Cause::Index => "index",
-        Cause::Loop => "loop",
-    };
-    let line = place.line.0;
-    let number = place.number;
-    if place.by_scheduler {
-        return format!(in alloc; "{cause} line {line} before iteration {number}");
-    }
-    format!(in alloc; "{cause} line {line} iteration {number}")
 }
