@@ -76,11 +76,11 @@ fn words_of(
     }
 }
 
-// Whether a program is of the first form.
-fn is_first(checked: &Checked) -> bool
-    ensures { IsTrue result → IsFirstForm checked.now }
+// Whether the program of a job is of the first form.
+fn is_first(job: &Job) -> bool
+    ensures { IsTrue result → IsFirstForm job.now.program }
 {
-    is_first_form(checked.program())
+    is_first_form(job.checked().program())
 }
 
 // The job of an input whose program is of the first form.
@@ -89,8 +89,9 @@ fn job_of(rt: &impl Abort, alloc: Global, input: &[u8]) -> Result<Job, NoMemory>
 {
     let checked = program_of(rt, alloc, input)?;
     let words = words_of(rt, alloc, input, &checked)?;
-    assert!(rt; is_first(&checked));
-    Ok(Job::new(checked, words))
+    let job = Job::new(checked, words);
+    assert!(rt; is_first(&job));
+    Ok(job)
 }
 
 fn options(workers: u8, queue: u16) -> Options
