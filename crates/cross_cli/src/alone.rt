@@ -1,9 +1,6 @@
 ghost use Rattle.std.specs.Prelude.{◌≡◌, true, IfOk};
 ghost use Rattle.nest_syntax.specs.FirstForm.{IsFirstForm};
-ghost use Rattle.nest_data.specs.Text.{array_lines};
-ghost use Rattle.domore_engine.specs.Engine.{is_finished, ending_of};
-ghost use Rattle.progress_board.specs.Runs.{IsLegal};
-ghost use Rattle.domore_engine.specs.Engine.{opening, step};
+ghost use Rattle.domore_engine.specs.Engine.{is_finished};
 ghost use Rattle.cross_cli.specs.Answers.{alone_answer, alone_options, job_of};
 ghost use Rattle.cross_cli.specs.Told.{told, done_text};
 
@@ -18,7 +15,6 @@ use nest_report::print_place;
 use nest_syntax::NoMemory;
 use progress_board::{Ending, Engine, Machine, Options, Sign};
 use std::alloc::Global;
-use word_store::Words;
 
 /// The outcome of a job by the engine `domore` on one thread, by the rotation, with its report.
 pub fn alone(alloc: Global, job: Job) -> Result<Reply, NoMemory>

@@ -1,6 +1,5 @@
 ghost use Rattle.std.specs.Prelude.{◌≡◌, ◌≤◌, IfOk, length};
 ghost use Rattle.nest_io.specs.declared.transfer.TheConstants.{MOST_BYTES};
-ghost use Rattle.first_form.specs.Spelled.{IsSpelledFirst};
 ghost use Rattle.cross_cli.specs.Answers.{refusal, refused_answer, plain_answer, check_answer};
 ghost use Rattle.cross_cli.specs.Answers.{AnswersInput, AnswersProgram, AnswersAlone};
 

@@ -124,7 +124,7 @@ fn open(
     Domore::open(alloc, job, options(workers, queue))
 }
 
-// Drives a machine to its end. That a machine may cross threads is proved here alone.
+// Drives a machine to its end. Each caller of `lone_run` shows that its machine may cross threads; this is the only one.
 fn run(machine: &mut Domore, schedule: &[u8], history: &mut Vec<u8>) -> Result<(), NoMemory> {
     lone_run(machine, schedule, history)
 }

@@ -46,6 +46,7 @@ impl Relay {
         requires { IsInRange options }
         ensures { result ≡ opening job options }
     {
+        // It tells what the invariant needs: that the job can be run.
         let _program = job.checked();
         Relay {
             job,

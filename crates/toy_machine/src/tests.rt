@@ -51,7 +51,7 @@ fn open(rt: &impl Abort, alloc: Global, workers: u8, queue: u16) -> Result<Relay
     Ok(Relay::open(job(rt, alloc)?, options(workers, queue)))
 }
 
-// Drives a machine to its end. That a machine may cross threads is proved here alone.
+// Drives a machine to its end. Each caller of `lone_run` shows that its machine may cross threads; this is the only one.
 fn run(machine: &mut Relay, schedule: &[u8], history: &mut Vec<u8>) -> Result<(), NoMemory> {
     lone_run(machine, schedule, history)
 }
