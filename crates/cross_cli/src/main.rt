@@ -7,10 +7,10 @@
 mod alone;
 mod answers;
 mod laws;
-mod refusals;
-mod report;
 #[cfg(test)]
 mod nests;
+mod refusals;
+mod report;
 mod status;
 #[cfg(test)]
 mod tests;

@@ -14,10 +14,22 @@ fn a_trap_has_its_place(rt: HostRuntime) -> Result<(), Fail> {
             "a[0] = 1;\nfor (long i = 0; i <= 1 / t; i++) {\n}\n}\n",
             "trap divide line 4 before iteration 1\n",
         ),
-        (HEAD, "a[9] += 1 / 0;\n}\n", "trap divide line 3 iteration 0\n"),
+        (
+            HEAD,
+            "a[9] += 1 / 0;\n}\n",
+            "trap divide line 3 iteration 0\n",
+        ),
         (HEAD, "a[9] /= 0;\n}\n", "trap index line 3 iteration 0\n"),
-        (HEAD, "a[a[9]] = 1 / 0;\n}\n", "trap index line 3 iteration 0\n"),
-        (HEAD, "a[1 / 0] = a[9];\n}\n", "trap divide line 3 iteration 0\n"),
+        (
+            HEAD,
+            "a[a[9]] = 1 / 0;\n}\n",
+            "trap index line 3 iteration 0\n",
+        ),
+        (
+            HEAD,
+            "a[1 / 0] = a[9];\n}\n",
+            "trap divide line 3 iteration 0\n",
+        ),
         (
             HEAD,
             "a[0] = a[4] + 1 / 0;\n}\n",
@@ -28,9 +40,21 @@ fn a_trap_has_its_place(rt: HostRuntime) -> Result<(), Fail> {
             "a[0] = 1 / 0 + a[4];\n}\n",
             "trap divide line 3 iteration 0\n",
         ),
-        (HEAD, "a[0] = 1 && 1 / 0;\n}\n", "trap divide line 3 iteration 0\n"),
-        (HEAD, "a[0] =\n1 /\n0;\n}\n", "trap divide line 3 iteration 0\n"),
-        (HEAD, "a[t - 1] = 5;\n}\n", "trap index line 3 iteration 0\n"),
+        (
+            HEAD,
+            "a[0] = 1 && 1 / 0;\n}\n",
+            "trap divide line 3 iteration 0\n",
+        ),
+        (
+            HEAD,
+            "a[0] =\n1 /\n0;\n}\n",
+            "trap divide line 3 iteration 0\n",
+        ),
+        (
+            HEAD,
+            "a[t - 1] = 5;\n}\n",
+            "trap index line 3 iteration 0\n",
+        ),
         (
             HEAD,
             "a[0] = 1;\na[t * 4] = 5;\n}\n",

@@ -61,8 +61,20 @@ fn a_turn_leaves_its_words(rt: HostRuntime) -> Result<(), Fail> {
         (SCATTER, 0, &[(2, 1), (3, 2)], None, b"a 1 2 5 4\n"),
         (SCATTER, 0, &[(2, 0), (3, 1)], None, b"a 2 2 3 4\n"),
         (STOPPED, 0, &[(1, 0)], None, b"a 7 0 0\n"),
-        (STOPPED, 1, &[(1, 0), (2, 0)], stopped(Cause::Divide), b"a 5 0 0\n"),
-        (STOPPED, 1, &[(1, 0), (2, 1)], stopped(Cause::Index), b"a 0 5 0\n"),
+        (
+            STOPPED,
+            1,
+            &[(1, 0), (2, 0)],
+            stopped(Cause::Divide),
+            b"a 5 0 0\n",
+        ),
+        (
+            STOPPED,
+            1,
+            &[(1, 0), (2, 1)],
+            stopped(Cause::Index),
+            b"a 0 5 0\n",
+        ),
     ];
     for (input, body, scalars, trap, words) in cases {
         let behind = turned(&rt, alloc, input, body, scalars)?;
