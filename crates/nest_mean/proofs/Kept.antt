@@ -26,6 +26,16 @@ takes_more source f xs i there here is target target' whole left more =
 pub takes_all : {A : Type 0} (source : List ℤ) (f : A → List ℕ) (xs : List A) (i : ℕ) → length xs ≤ i → (target whole : List ℤ) → taken_over (concat (map f (drop i xs))) source target ≡ whole → target ≡ whole
 takes_all source f xs i over target whole left = ap (λ ys. taken_over (concat (map f ys)) source target) (sym (drop_all i xs over)) ∙ left
 
+-- the same of a list of names itself
+pub takes_next : (names : List ℕ) (i d : ℕ) → i < length names → (source target target' whole : List ℤ)
+    → taken_over (drop i names) source target ≡ whole → target' ≡ taken_over (get_or names i d ∷ []) source target → taken_over (drop (i + 1) names) source target' ≡ whole
+takes_next names i d there source target target' whole left more =
+    let rest : drop i names ≡ get_or names i d ∷ drop (i + 1) names = drop-cons names i d there ∙ ap (λ k. get_or names i d ∷ drop k names) (sym (add-one i)) in
+    ap (taken_over (drop (i + 1) names) source) more ∙ ap (λ ys. taken_over ys source target) (sym rest) ∙ left
+
+pub takes_none : (names : List ℕ) (i : ℕ) → length names ≤ i → (source target whole : List ℤ) → taken_over (drop i names) source target ≡ whole → target ≡ whole
+takes_none names i over source target whole left = ap (λ ys. taken_over ys source target) (sym (drop_all i names over)) ∙ left
+
 pub length-taken : (names : List ℕ) (source target : List ℤ) → length (taken_over names source target) ≡ length target
 length-taken [] source target = refl
 length-taken (first ∷ names) source target = length-taken names source (with_scalar target first (scalar_at source first)) ∙ length-set target first (scalar_at source first)
@@ -68,6 +78,14 @@ put_back_saved names before after saved kept are_saved = ext_get_or (pos 0) (tak
     let inside : name < length after = subst (λ n. name < n) (length-taken names saved after) there in
     let in_saved : name < length saved = subst (λ n. name < n) (kept.many ∙ sym are_saved.many) inside in
     taken_at names saved after name (scalar_at before name) inside (λ apart. kept.others name apart) (λ among. are_saved.each name in_saved among))
+
+-- names with the same members take over the same
+pub takes_same : (names others : List ℕ) (source target : List ℤ) → ((name : ℕ) → is_among names name ≡ is_among others name) → taken_over names source target ≡ taken_over others source target
+takes_same names others source target same = ext_get_or (pos 0) (taken_over names source target) (taken_over others source target) (length-taken names source target ∙ sym (length-taken others source target)) (λ name there.
+    let inside : name < length target = subst (λ n. name < n) (length-taken names source target) there in
+    taken_at names source target name (scalar_at (taken_over others source target) name) inside
+    (λ apart. sym (taken_at others source target name (scalar_at target name) inside (λ _. refl) (λ among. not_both (is_among names name) (same name ∙ among) apart)))
+    (λ among. sym (taken_at others source target name (scalar_at source name) inside (λ apart. not_both (is_among names name) among (same name ∙ apart)) (λ _. refl))))
 
 pub length-declared : (decls : List Decl) (scalars : List ℤ) → length (declared_scalars decls scalars) ≡ length scalars
 length-declared [] scalars = refl

@@ -8,3 +8,4 @@ pub mod Walk
 pub mod Sameness
 pub mod Whole
 pub mod Numbers
+pub mod Added

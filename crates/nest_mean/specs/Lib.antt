@@ -6,3 +6,4 @@ pub mod Outcomes
 pub mod CourseParts
 pub mod Saved
 pub mod Numbered
+pub mod Added

@@ -1,14 +1,15 @@
-ghost use Rattle.std.specs.Prelude.{◌≡◌, ◌+◌, ◌<◌, ◌≤◌, ◌^◌, ℕ, [], ◌∷◌, length, FitsSigned};
+ghost use Rattle.std.specs.Prelude.{◌≡◌, ◌+◌, ◌<◌, ◌≤◌, ◌^◌, ℕ, [], ◌∷◌, length, FitsSigned, IfSome};
 ghost use Rattle.std.specs.Int.{w64};
 ghost use Rattle.nest_syntax.specs.Words.{variable};
 ghost use Rattle.nest_syntax.specs.Arrays.{arrays_of, sizes_of};
-ghost use Rattle.nest_mean.specs.NamesChanged.{names_changed, changed_in_loop};
+ghost use Rattle.nest_mean.specs.NamesChanged.{names_changed, changed_in_loop, is_among};
 ghost use Rattle.nest_mean.specs.Saved.{AreSaved};
 ghost use Rattle.nest_mean.specs.CourseParts.{Iterates, IteratesAll, at_iteration, next_number};
 
 use crate::bodies::{TurnTrap, run_body};
+use crate::few::few_names;
 use crate::run_scalars::RunScalars;
-use crate::saved::take_over_loop;
+use crate::saved::{put_back, take_over_loop};
 use crate::values::Scalars;
 use nest_check::Checked;
 use nest_syntax::{Loop, Place, Stmt};
@@ -31,8 +32,14 @@ pub(crate) fn run_iterations(
     ensures { IteratesAll (arrays_of checked.now.decls) invoked.now low count result scalars.old number.old words.old scalars.new number.new words.new }
 {
     take_over_loop(invoked, &scalars.present, &mut scalars.aside);
+    let few = few_names(invoked);
+    let names = match &few {
+        Some(names) => Some(names.as_slice()),
+        None => None,
+    };
     iterate(
         invoked,
+        names,
         low,
         count,
         &mut scalars.present,
@@ -46,6 +53,7 @@ pub(crate) fn run_iterations(
 // The iterations, once the scalars that they change are saved.
 fn iterate(
     invoked: &Loop,
+    names: Option<&[u32]>,
     low: i64,
     count: u64,
     scalars: &mut Scalars,
@@ -55,6 +63,7 @@ fn iterate(
     checked: &Checked,
 ) -> Result<(), Place>
     requires sizes { words.old.sizes ≡ sizes_of (arrays_of checked.now.decls) }
+    requires names { IfSome names (λ list. (name : ℕ) → is_among list.now name ≡ is_among (changed_in_loop invoked.now) name) }
     requires saved { AreSaved (changed_in_loop invoked.now) scalars.old saved.now }
     requires reach { (k : ℕ) → k < count → FitsSigned w64 (variable low invoked.now.step k) }
     requires room { number.old + count < 2 ^ 64 }
@@ -64,7 +73,7 @@ fn iterate(
     for k in 0..count {
         scalars.set(invoked.name, value_in_turn(low, invoked.step, k));
         run_iteration(invoked.body.as_slice(), scalars, number, words, checked)?;
-        take_over_loop(invoked, saved, scalars);
+        put_back(invoked, names, saved, scalars);
     }
     Ok(())
 }

@@ -8,6 +8,7 @@ mod bodies;
 mod courses;
 mod events;
 mod expressions;
+mod few;
 mod iterations;
 mod jobs;
 mod numbered;

@@ -1,6 +1,6 @@
-ghost use Rattle.std.specs.Prelude.{◌≡◌, [], ◌∷◌, map};
+ghost use Rattle.std.specs.Prelude.{◌≡◌, ℕ, [], ◌∷◌, map, IfSome};
 ghost use Rattle.std.specs.List.{concat};
-ghost use Rattle.nest_mean.specs.NamesChanged.{names_changed, changed, changed_in_arm, changed_in_loop};
+ghost use Rattle.nest_mean.specs.NamesChanged.{names_changed, changed, changed_in_arm, changed_in_loop, is_among};
 ghost use Rattle.nest_mean.specs.Saved.{taken_over};
 
 use crate::values::Scalars;
@@ -53,5 +53,30 @@ fn take_over_arms(arms: &[Arm], source: &Scalars, target: &mut Scalars)
 {
     for arm in arms {
         take_over_block(arm.body.as_slice(), source, target);
+    }
+}
+
+/// The same, by a list of names that has each of them once, where there is one: then it costs by the names, and not by
+/// the text of the body.
+pub(crate) fn put_back(
+    invoked: &Loop,
+    names: Option<&[u32]>,
+    source: &Scalars,
+    target: &mut Scalars,
+)
+    requires { IfSome names (λ list. (name : ℕ) → is_among list.now name ≡ is_among (changed_in_loop invoked.now) name) }
+    ensures { target.new ≡ taken_over (changed_in_loop invoked.now) source.now target.old }
+{
+    match names {
+        Some(names) => take_over_names(names, source, target),
+        None => take_over_loop(invoked, source, target),
+    }
+}
+
+fn take_over_names(names: &[u32], source: &Scalars, target: &mut Scalars)
+    ensures { target.new ≡ taken_over names.now source.now target.old }
+{
+    for name in names {
+        take_over(*name, source, target);
     }
 }

@@ -26,7 +26,7 @@ loop-k-preserved c =
     let start : c.set.new.self ≡ with_scalar c.loop-k.scalars c.args.invoked.now.name (variable c.args.low c.args.invoked.now.step c.loop-k.k) =
     c.set.ensures ∙ ap (with_scalar c.loop-k.scalars c.args.invoked.now.name) (value ∙ simp low at c.value_in_turn.ensures) in
     simp low
-    (iteration_runs _ _ _ _ _ _ _ c.loop-k.k c.loop-k-test.true _ _ _ (simp low at c.loop-k.invariant) c.set.new.self start _ _ _ _ _ c.requires.saved (rw c.as_slice.ensures at c.in_ok-run_iteration.ensures) c.take_over_loop.ensures)
+    (iteration_runs _ _ _ _ _ _ _ c.loop-k.k c.loop-k-test.true _ _ _ (simp low at c.loop-k.invariant) c.set.new.self start _ _ _ _ _ c.requires.saved (rw c.as_slice.ensures at c.in_ok-run_iteration.ensures) c.put_back.ensures)
 
 pub returns-clause-all : goal.returns-clause-all
 returns-clause-all c =
