@@ -15,9 +15,9 @@ use Rattle.nest_syntax.specs.declared.tree.Stmt.TheVariants as stmt
 use Rattle.nest_syntax.specs.declared.tree.Stmt.TheVariants.{rolls-Write}
 use Rattle.nest_syntax.specs.declared.tree.Program.{Program}
 use Rattle.nest_syntax.specs.Arrays.{Array}
-use Rattle.nest_syntax.specs.Course.{Setting, Item, Tested, Looped, in_order, chosen, region_of, setting_of, bodies_of, item_of}
-use Rattle.nest_syntax.proofs.Equations.{tested_of, item-declare, item-assign, item-write, item-if, item-loop, looped-is, tested-is}
-use Rattle.graph_reach.specs.Reached.{is_among}
+use Rattle.nest_syntax.specs.Course.{Setting, Item, Tested, Looped, in_order, chosen, region_of, setting_of, bodies_of, item_of, tested_of}
+use Rattle.nest_syntax.proofs.Equations.{item-declare, item-assign, item-write, item-if, item-loop, looped-is, tested-is}
+use Rattle.nest_syntax.specs.Among.{is_among}
 use Rattle.data_local.specs.Givings.{Given, Tried, Giving, given, given_node, tried_node, given_loop_node, givings}
 use Rattle.data_local.specs.DataLocals.{IsGivenData}
 use Rattle.data_local.specs.Bodies.{AreLocalsByBody, givings_in_item, givings_in_items}

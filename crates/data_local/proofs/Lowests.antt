@@ -11,7 +11,7 @@ use Rattle.nest_syntax.specs.Arrays.{Array}
 use Rattle.nest_syntax.specs.Value.{names_written}
 use Rattle.lowest_line.proofs.Lists.{lower_of-where}
 use Rattle.lowest_line.specs.Lowest.{lower, lower_of, lines_where, lower_if}
-use Rattle.graph_reach.specs.Reached.{is_among}
+use Rattle.nest_syntax.specs.Among.{is_among}
 use Rattle.data_local.specs.Names.{scalars_in}
 use Rattle.data_local.specs.DataLocals.{IsOne, IsData, AreDataLocals}
 use Rattle.data_local.specs.Loops.{loops_in}

@@ -8,7 +8,7 @@ use Rattle.nest_syntax.specs.declared.tree.Decl.{Decl}
 use Rattle.nest_syntax.specs.declared.tree.Decl.TheVariants as decl
 use Rattle.nest_syntax.specs.Arrays.{Array, arrays_of, array_of, is_fixed}
 use Rattle.nest_syntax.specs.Value.{is_written}
-use Rattle.graph_reach.specs.Reached.{is_among}
+use Rattle.nest_syntax.specs.Among.{is_among}
 use Rattle.data_local.specs.Written.{TellsWritten}
 
 -- A scan that has come to declaration i: the arrays that it has seen, and those of them that are written.

@@ -10,7 +10,7 @@ use Rattle.nest_syntax.specs.declared.tree.Stmt.TheFolds.{fold-Stmt, fold-Arm, f
 use Rattle.nest_syntax.specs.declared.tree.Program.{Program}
 use Rattle.nest_syntax.specs.Arrays.{Array, arrays_of}
 use Rattle.lowest_line.specs.Lowest.{lines_where}
-use Rattle.graph_reach.specs.Reached.{is_among}
+use Rattle.nest_syntax.specs.Among.{is_among}
 use Rattle.data_local.specs.Names.{scalars_in, arrays_in}
 use Rattle.data_local.specs.DataLocals.{IsOne, IsData}
 use Rattle.data_local.specs.Loops.{loops_in, loops_of, invocations}

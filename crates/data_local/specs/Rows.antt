@@ -8,7 +8,7 @@ use Rattle.nest_syntax.specs.Value.{names_written}
 use Rattle.graph_reach.specs.declared.Edge.{Edge}
 use Rattle.data_local.specs.declared.rows.Row.{Row}
 use Rattle.data_local.specs.declared.rows.Row.TheVariants as row
-use Rattle.graph_reach.specs.Reached.{is_among}
+use Rattle.nest_syntax.specs.Among.{is_among}
 use Rattle.data_local.specs.Names.{scalars_in}
 use Rattle.data_local.specs.Givings.{Giving, Given, Tried, by_arms}
 

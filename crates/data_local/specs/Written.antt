@@ -2,7 +2,7 @@
 use Rattle.std.specs.Prelude.{◌≡◌, ℕ, List}
 use Rattle.nest_syntax.specs.Arrays.{Array}
 use Rattle.nest_syntax.specs.Value.{is_written}
-use Rattle.graph_reach.specs.Reached.{is_among}
+use Rattle.nest_syntax.specs.Among.{is_among}
 
 -- that a name is among them exactly where the array of that name is written
 abbrev pub TellsWritten : List Array → List ℕ → Type 0

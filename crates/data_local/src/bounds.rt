@@ -1,7 +1,7 @@
 ghost use Rattle.std.specs.Prelude.{◌≡◌, ◌||◌, ℕ, List, map, IfOk, OnOk};
 ghost use Rattle.nest_syntax.specs.Arrays.{Array};
 ghost use Rattle.lowest_line.specs.Lowest.{lower_if, lower_of, lowest, lines_where};
-ghost use Rattle.graph_reach.specs.Reached.{is_among};
+ghost use Rattle.nest_syntax.specs.Among.{is_among};
 ghost use Rattle.data_local.specs.Written.{TellsWritten};
 ghost use Rattle.data_local.specs.Bounds.{line_of, changes, changes_one, changes_one_in_arms, changes_in_loop, changes_its_bound, lines_of_changed_bounds, HasDataBoundIn, HasDataBound, IsLowest};
 ghost use Rattle.data_local.specs.Breaches.{HasSameNames, is_data, has_data_bound, Lowers};

@@ -1,6 +1,6 @@
 ghost use Rattle.std.specs.Prelude.{◌≡◌, ℕ, ◌++◌, ◌<◌, ◌≤◌, ◌+◌, ◌*◌, ◌^◌, List, [], reverse, IfOk, OnOk};
 ghost use Rattle.std.specs.List.{flat_map, list_any};
-ghost use Rattle.graph_reach.specs.Reached.{is_among};
+ghost use Rattle.nest_syntax.specs.Among.{is_among};
 ghost use Rattle.data_local.specs.Names.{scalars_in};
 ghost use Rattle.nest_syntax.specs.Arrays.{Array, arrays_of};
 ghost use Rattle.data_local.specs.Givings.{givings};

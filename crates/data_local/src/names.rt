@@ -1,5 +1,5 @@
 ghost use Rattle.std.specs.Prelude.{◌≡◌, ◌++◌, ◌==◌, ◌||◌, ◌*◌, ℕ, OnOk, IfOk};
-ghost use Rattle.graph_reach.specs.Reached.{is_among};
+ghost use Rattle.nest_syntax.specs.Among.{is_among};
 ghost use Rattle.data_local.specs.Names.{scalars_in, arrays_in};
 ghost use Rattle.data_local.specs.Rows.{edges_from};
 

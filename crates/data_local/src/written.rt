@@ -1,7 +1,7 @@
 ghost use Rattle.std.specs.Prelude.{◌≡◌, ◌==◌, ◌||◌, ◌&&◌, ℕ, not, List, IfOk, OnOk};
 ghost use Rattle.nest_syntax.specs.Arrays.{Array, arrays_of};
 ghost use Rattle.nest_syntax.specs.Value.{names_written, is_written};
-ghost use Rattle.graph_reach.specs.Reached.{is_among};
+ghost use Rattle.nest_syntax.specs.Among.{is_among};
 ghost use Rattle.data_local.specs.Written.{TellsWritten};
 
 use indexmap::IndexSet;

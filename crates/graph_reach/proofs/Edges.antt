@@ -9,7 +9,8 @@ use Rattle.std.proofs.lemmas.List.Sorted.{list_any-IsPermutation}
 use Rattle.std.proofs.lemmas.Bool.{or_left, ltb-true, ltb-false, leb-true, leb-false, eqb-true}
 use Rattle.std.proofs.lemmas.Bool.Decides.{eqb_tells, leb_tells}
 use Rattle.graph_reach.specs.declared.Edge.{Edge}
-use Rattle.graph_reach.specs.Reached.{is_among, is_edge, IsReached, start, along, IsGrown, IsSearch}
+use Rattle.nest_syntax.specs.Among.{is_among}
+use Rattle.graph_reach.specs.Reached.{is_edge, IsReached, start, along, IsGrown, IsSearch}
 
 pub or_false : (b : Bool) → (b || false) ≡ b
 or_false true = refl

@@ -1,11 +1,8 @@
 -- What is reached in a graph, from some of its nodes along its edges. A node is a number.
 use Rattle.std.specs.Prelude.{◌≡◌, ℕ, ◌<◌, ◌≤◌, Bool, true, ◌&&◌, ◌==◌, List, length, slice_index}
 use Rattle.std.specs.List.{list_any}
+use Rattle.nest_syntax.specs.Among.{is_among}
 use Rattle.graph_reach.specs.declared.Edge.{Edge}
-
--- whether a node is one of a list
-abbrev pub is_among : List ℕ → ℕ → Bool
-is_among nodes node = list_any (λ other. node == other) nodes
 
 -- whether an edge leads from one node to another
 abbrev pub is_edge : List Edge → ℕ → ℕ → Bool

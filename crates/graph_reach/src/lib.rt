@@ -6,7 +6,8 @@
 
 ghost use Rattle.std.specs.Prelude.{◌≡◌, ℕ, ◌<◌, ◌≤◌, ◌||◌, ◌==◌, ◌↔◌, true, [], length, slice_index_or, IsTrue, IfOk, OnOk};
 ghost use Rattle.std.specs.List.Sorted.{IsNonDecreasingBy, IsPermutation};
-ghost use Rattle.graph_reach.specs.Reached.{is_among, is_edge, IsReached, IsGrown};
+ghost use Rattle.nest_syntax.specs.Among.{is_among};
+ghost use Rattle.graph_reach.specs.Reached.{is_edge, IsReached, IsGrown};
 
 use indexmap::IndexSet;
 use nest_syntax::NoMemory;

@@ -8,8 +8,7 @@ use Rattle.nest_syntax.specs.declared.tree.Stmt.{Stmt, roll-Stmt}
 use Rattle.nest_syntax.specs.declared.tree.Stmt.TheOpen.{Stmt-F, Arm-F, Loop-F}
 use Rattle.nest_syntax.specs.declared.tree.Stmt.TheFolds.{map-Stmt, map-Arm, map-Loop, ind-Loop, para-Loop, para-roll-Stmt, para-roll-Arm, para-roll-Loop}
 use Rattle.nest_syntax.specs.declared.tree.Program.{Program}
-use Rattle.nest_syntax.specs.Course.{Setting, Item, Tested, Looped, in_order, chosen, item_node, tested_node, looped_node, item_of, looped_of, region_of, setting_of, bodies_of}
-use Rattle.nest_syntax.proofs.Equations.{tested_of}
+use Rattle.nest_syntax.specs.Course.{Setting, Item, Tested, Looped, in_order, chosen, item_node, tested_node, looped_node, item_of, looped_of, region_of, setting_of, bodies_of, tested_of}
 use Rattle.lowest_line.specs.Lowest.{lines_where}
 use Rattle.data_local.specs.Bounds.{line_of}
 use Rattle.nest_check.specs.Entries.{Entry, items, items_in_arm, items_of, items_node, arm_items_node, loop_items_node}

@@ -4,7 +4,7 @@ use Rattle.std.specs.List.{concat}
 use Rattle.std.proofs.lemmas.List.{drop_all}
 use Rattle.std.proofs.lemmas.List.Folds.{list_any-append}
 use Rattle.std.proofs.lemmas.Bool.Decides.{eqb_tells}
-use Rattle.nest_mean.specs.NamesChanged.{is_among}
+use Rattle.nest_syntax.specs.Among.{is_among}
 use Rattle.nest_mean.specs.Added.{Adds}
 
 or_false : (a : Bool) → (a || false) ≡ a
@@ -25,18 +25,18 @@ adds_none names name = sym (or_false (is_among names name))
 pub adds_both : (old new newer xs ys : List ℕ) → Adds old new xs → Adds new newer ys → Adds old newer (xs ++ ys)
 adds_both old new newer xs ys first second name =
     second name ∙ ap (λ b. b || is_among ys name) (first name) ∙ or_assoc (is_among old name) (is_among xs name) (is_among ys name)
-    ∙ ap (λ b. is_among old name || b) (sym (list_any-append (λ other. other == name) xs ys))
+    ∙ ap (λ b. is_among old name || b) (sym (list_any-append (λ other. name == other) xs ys))
 
 -- a name that is there is there once more
 pub adds_known : (names : List ℕ) (name : ℕ) → is_among names name ≡ true → Adds names names (name ∷ [])
-adds_known names name known other = by_name (eqb_tells name other)
+adds_known names name known other = by_name (eqb_tells other name)
   where
-    by_name : (((name == other) ≡ true) × (name ≡ other)) ⊎ (((name == other) ≡ false) × (name ≢ other)) → is_among names other ≡ (is_among names other || ((name == other) || false))
-    by_name (inl e) = (sym (ap (is_among names) e.1) ∙ known) ∙ sym (ap (λ b. is_among names other || (b || false)) e.0 ∙ or_true (is_among names other))
+    by_name : (((other == name) ≡ true) × (other ≡ name)) ⊎ (((other == name) ≡ false) × (other ≢ name)) → is_among names other ≡ (is_among names other || ((other == name) || false))
+    by_name (inl e) = (ap (is_among names) e.1 ∙ known) ∙ sym (ap (λ b. is_among names other || (b || false)) e.0 ∙ or_true (is_among names other))
     by_name (inr e) = sym (ap (λ b. is_among names other || (b || false)) e.0 ∙ or_false (is_among names other))
 
 pub adds_new : (names : List ℕ) (name : ℕ) → Adds names (names ++ name ∷ []) (name ∷ [])
-adds_new names name other = list_any-append (λ x. x == other) names (name ∷ [])
+adds_new names name other = list_any-append (λ x. other == x) names (name ∷ [])
 
 -- of the parts from place i on the names are left to be added to these
 abbrev pub IsLeft : {A : Type 0} (f : A → List ℕ) (xs : List A) (i : ℕ) (old names : List ℕ) → Type 0

@@ -8,7 +8,8 @@ use Rattle.nest_syntax.specs.declared.tree.Decl.{Decl}
 use Rattle.nest_syntax.specs.declared.tree.Decl.TheVariants as decl
 use Rattle.nest_syntax.specs.Course.{declared_scalars}
 use Rattle.nest_syntax.specs.Value.{scalar_at, with_scalar}
-use Rattle.nest_mean.specs.NamesChanged.{is_among, KeepsOthers}
+use Rattle.nest_syntax.specs.Among.{is_among}
+use Rattle.nest_mean.specs.NamesChanged.{KeepsOthers}
 use Rattle.nest_mean.specs.Saved.{taken_over, AreSaved}
 
 pub taken-append : (xs ys : List ℕ) (source target : List ℤ) → taken_over (xs ++ ys) source target ≡ taken_over ys source (taken_over xs source target)
@@ -44,7 +45,7 @@ length-taken (first ∷ names) source target = length-taken names source (with_s
 taken_at : (names : List ℕ) (source target : List ℤ) (name : ℕ) (value : ℤ) → name < length target → (is_among names name ≡ false → scalar_at target name ≡ value) → (is_among names name ≡ true → scalar_at source name ≡ value)
     → scalar_at (taken_over names source target) name ≡ value
 taken_at [] source target name value there apart among = apart refl
-taken_at (first ∷ names) source target name value there apart among = taken_at names source next name value inside (out (eqb_tells first name)) (within (eqb_tells first name))
+taken_at (first ∷ names) source target name value there apart among = taken_at names source next name value inside (out (eqb_tells name first)) (within (eqb_tells name first))
   where
     next : List ℤ
     next = with_scalar target first (scalar_at source first)
@@ -52,13 +53,13 @@ taken_at (first ∷ names) source target name value there apart among = taken_at
     inside : name < length next
     inside = subst (λ n. name < n) (sym (length-set target first (scalar_at source first))) there
 
-    out : (((first == name) ≡ true) × (first ≡ name)) ⊎ (((first == name) ≡ false) × (first ≢ name)) → is_among names name ≡ false → scalar_at next name ≡ value
+    out : (((name == first) ≡ true) × (name ≡ first)) ⊎ (((name == first) ≡ false) × (name ≢ first)) → is_among names name ≡ false → scalar_at next name ≡ value
     out (inl e) apart' =
         let there' : first < length target = omega (arith, e.1, there) in
-        ap (scalar_at next) (sym e.1) ∙ get_or-set_same target first (scalar_at source first) (pos 0) there' ∙ ap (scalar_at source) e.1 ∙ among (ap (λ b. b || is_among names name) e.0)
-    out (inr e) apart' = get_or-set_other target first name (scalar_at source first) (pos 0) (λ same. e.1 (sym same)) ∙ apart (ap (λ b. b || is_among names name) e.0 ∙ apart')
+        ap (scalar_at next) e.1 ∙ get_or-set_same target first (scalar_at source first) (pos 0) there' ∙ ap (scalar_at source) (sym e.1) ∙ among (ap (λ b. b || is_among names name) e.0)
+    out (inr e) apart' = get_or-set_other target first name (scalar_at source first) (pos 0) e.1 ∙ apart (ap (λ b. b || is_among names name) e.0 ∙ apart')
 
-    within : (((first == name) ≡ true) × (first ≡ name)) ⊎ (((first == name) ≡ false) × (first ≢ name)) → is_among names name ≡ true → scalar_at source name ≡ value
+    within : (((name == first) ≡ true) × (name ≡ first)) ⊎ (((name == first) ≡ false) × (name ≢ first)) → is_among names name ≡ true → scalar_at source name ≡ value
     within (inl e) among' = among (ap (λ b. b || is_among names name) e.0)
     within (inr e) among' = among (ap (λ b. b || is_among names name) e.0 ∙ among')
 

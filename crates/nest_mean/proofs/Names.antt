@@ -14,7 +14,8 @@ use Rattle.nest_syntax.specs.declared.tree.Stmt.TheVariants as stmt
 use Rattle.nest_syntax.specs.declared.tree.Stmt.TheVariants.{rolls-Declare, rolls-Assign, rolls-Write, rolls-If, rolls-Loop}
 use Rattle.nest_syntax.specs.Value.{with_scalar}
 use Rattle.std.specs.List.{concat}
-use Rattle.nest_mean.specs.NamesChanged.{changed, changed_node, changed_arm_node, changed_loop_node, changed_in_arm, changed_in_loop, is_among, KeepsOthers}
+use Rattle.nest_syntax.specs.Among.{is_among}
+use Rattle.nest_mean.specs.NamesChanged.{changed, changed_node, changed_arm_node, changed_loop_node, changed_in_arm, changed_in_loop, KeepsOthers}
 
 or_false_left : (a b : Bool) → (a || b) ≡ false → a ≡ false
 or_false_left false b e = refl
@@ -25,16 +26,16 @@ or_false_right false b e = e
 or_false_right true b e = cc
 
 pub among_left : (xs ys : List ℕ) (name : ℕ) → is_among (xs ++ ys) name ≡ false → is_among xs name ≡ false
-among_left xs ys name e = or_false_left (is_among xs name) (is_among ys name) (sym (list_any-append (λ other. other == name) xs ys) ∙ e)
+among_left xs ys name e = or_false_left (is_among xs name) (is_among ys name) (sym (list_any-append (λ other. name == other) xs ys) ∙ e)
 
 pub among_right : (xs ys : List ℕ) (name : ℕ) → is_among (xs ++ ys) name ≡ false → is_among ys name ≡ false
-among_right xs ys name e = or_false_right (is_among xs name) (is_among ys name) (sym (list_any-append (λ other. other == name) xs ys) ∙ e)
+among_right xs ys name e = or_false_right (is_among xs name) (is_among ys name) (sym (list_any-append (λ other. name == other) xs ys) ∙ e)
 
 pub among_here : (name : ℕ) (names : List ℕ) → is_among (name ∷ names) name ≡ true
 among_here name names = ap (λ b. b || is_among names name) (eq-eqb name name refl)
 
 pub among_behind : (first : ℕ) (names : List ℕ) (name : ℕ) → is_among (first ∷ names) name ≡ false → is_among names name ≡ false
-among_behind first names name e = or_false_right (first == name) (is_among names name) e
+among_behind first names name e = or_false_right (name == first) (is_among names name) e
 
 -- the names of a part are among those of the whole
 pub among_part : {A : Type 0} (f : A → List ℕ) (xs : List A) (i : ℕ) (none : A) → i < length xs → (name : ℕ) → is_among (concat (map f xs)) name ≡ false → is_among (f (get_or xs i none)) name ≡ false

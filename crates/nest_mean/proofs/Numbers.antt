@@ -10,9 +10,9 @@ use Rattle.nest_syntax.specs.declared.tree.Loop.{Loop}
 use Rattle.nest_syntax.specs.declared.tree.Stmt.{Stmt}
 use Rattle.nest_syntax.specs.declared.tree.Stmt.TheVariants as stmt
 use Rattle.nest_syntax.specs.declared.tree.Program.{Program}
-use Rattle.nest_syntax.specs.Course.{Item, Tested, in_order, chosen, item_of, region_of, setting_of, bodies_of}
+use Rattle.nest_syntax.specs.Course.{Item, Tested, in_order, chosen, item_of, region_of, setting_of, bodies_of, tested_of}
 use Rattle.nest_syntax.specs.Outcome.{body_at}
-use Rattle.nest_syntax.proofs.Equations.{tested_of, item-declare, item-assign, item-write, item-if, item-loop}
+use Rattle.nest_syntax.proofs.Equations.{item-declare, item-assign, item-write, item-if, item-loop}
 use Rattle.nest_mean.specs.Numbered.{bare, at_number, bodies_in_item, bodies_in_items, bodies_in_arm, bodies_in_region}
 use Rattle.nest_mean.proofs.Sameness.{same_regions}
 use Rattle.nest_mean.proofs.Walk.{map_second, region-is, invocation-is, tested_of-is}

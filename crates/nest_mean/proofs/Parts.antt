@@ -20,8 +20,8 @@ use Rattle.nest_syntax.proofs.Equations.{effect-declare}
 use Rattle.nest_syntax.proofs.Reckoned.{answered, done_with-answered, reckoned}
 use Rattle.word_store.specs.Memory.{Memory, loaded, stored}
 use Rattle.nest_mean.specs.declared.bodies.TurnTrap.{TurnTrap}
-use Rattle.nest_mean.specs.NamesChanged.{changed, names_changed, is_among, KeepsOthers}
-use Rattle.nest_mean.specs.TurnRun.{ended}
+use Rattle.nest_syntax.specs.Among.{is_among}
+use Rattle.nest_mean.specs.NamesChanged.{changed, names_changed, KeepsOthers}
 use Rattle.nest_mean.specs.TurnParts.{went_on_with, at_line, Runs}
 use Rattle.nest_mean.proofs.Names.{among_here, among_behind, among_part, keeps_same, keeps_then, keeps_more, keeps_set, changed-declare}
 
@@ -235,9 +235,3 @@ module _ (arrays : List Array) where
     turns_end k s₀ m₀ s m over left =
         let over' : n - k ≡ 0 = omega arith in
         none_left all_turns (turns_from k) (name ∷ names_changed body) s₀ m₀ s m (ap (λ l. repeat l k variable_in name (sequence (map (effect arrays) body))) over') left
-
-  -- an effect that is the whole of a turn
-  pub runs_alone : (does : Effect) (names : List ℕ) (result : Result (Unit {0}) TurnTrap) (s : List ℤ) (m : Memory) (s' : List ℤ) (m' : Memory)
-      → Runs arrays does names result s m s' m' → on_words (sizes_of arrays) (does s (λ after. Finished)) m.words ≡ ended result m'.words
-  runs_alone does names (Ok done) s m s' m' runs = runs.same (λ after. Finished)
-  runs_alone does names (Err trap) s m s' m' runs = runs.same (λ after. Finished)

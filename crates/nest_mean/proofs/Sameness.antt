@@ -5,9 +5,8 @@ use Rattle.nest_syntax.specs.declared.tree.Loop.{Loop, roll-Loop}
 use Rattle.nest_syntax.specs.declared.tree.Stmt.{Stmt, roll-Stmt}
 use Rattle.nest_syntax.specs.declared.tree.Stmt.TheOpen.{Stmt-F, Arm-F, Loop-F}
 use Rattle.nest_syntax.specs.declared.tree.Stmt.TheFolds.{map-Stmt, map-Arm, map-Loop, ind-Loop, para-roll-Stmt, para-roll-Arm, para-roll-Loop}
-use Rattle.nest_syntax.specs.Course.{Setting, Item, Tested, Looped, in_order, chosen, item_node, tested_node, looped_node, item_of, looped_of, region_of}
+use Rattle.nest_syntax.specs.Course.{Setting, Item, Tested, Looped, in_order, chosen, item_node, tested_node, looped_node, item_of, looped_of, region_of, tested_of}
 use Rattle.nest_syntax.specs.Outcome.{body_at}
-use Rattle.nest_syntax.proofs.Equations.{tested_of}
 use Rattle.nest_mean.specs.CourseParts.{Stand}
 use Rattle.nest_mean.proofs.Walk.{map_first}
 

@@ -18,7 +18,8 @@ use Rattle.nest_syntax.proofs.Equations.{arm_effect, arm_effect-is, loop_effect-
 use Rattle.word_store.specs.Memory.{Memory}
 use Rattle.nest_mean.specs.declared.bodies.TurnTrap.{TurnTrap}
 use Rattle.std.specs.List.{concat}
-use Rattle.nest_mean.specs.NamesChanged.{changed, changed_in_arm, changed_in_loop, names_changed, is_among, KeepsOthers}
+use Rattle.nest_syntax.specs.Among.{is_among}
+use Rattle.nest_mean.specs.NamesChanged.{changed, changed_in_arm, changed_in_loop, names_changed, KeepsOthers}
 use Rattle.nest_mean.specs.TurnParts.{went_on_with, at_line, Runs, RunsArms}
 use Rattle.nest_mean.proofs.Names.{among_left, among_right, among_part, keeps_same, keeps_then, keeps_more, changed-if, changed_in_arm-is}
 use Rattle.nest_mean.proofs.Parts.{reckoned_at, runs_stops}

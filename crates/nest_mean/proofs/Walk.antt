@@ -15,9 +15,9 @@ use Rattle.nest_syntax.specs.declared.tree.Stmt.TheOpen.{Stmt-F}
 use Rattle.nest_syntax.specs.Words.{is_zero, variable}
 use Rattle.nest_syntax.specs.Arrays.{Array, sizes_of}
 use Rattle.nest_syntax.specs.Value.{value, with_scalar}
-use Rattle.nest_syntax.specs.Course.{Setting, Course, Ordinary, Header, Item, Tested, computed, event, iterations, region_turns, in_order, chosen, item_of, item_node, looped_of, region_of}
+use Rattle.nest_syntax.specs.Course.{Setting, Course, Ordinary, Header, Item, Tested, computed, event, iterations, region_turns, in_order, chosen, item_of, item_node, looped_of, region_of, tested_of}
 use Rattle.nest_syntax.specs.Outcome.{Ending, TrappedAt, place_of_trap, turn_in, ending_from}
-use Rattle.nest_syntax.proofs.Equations.{tested_of, tested-is, looped-is, item-declare, item-assign, item-write, item-if, item-loop}
+use Rattle.nest_syntax.proofs.Equations.{tested-is, looped-is, item-declare, item-assign, item-write, item-if, item-loop}
 use Rattle.word_store.specs.Memory.{Memory}
 use Rattle.nest_syntax.specs.declared.place.Place.{Place}
 use Rattle.nest_mean.specs.NamesChanged.{names_changed, KeepsOthers}

@@ -1,6 +1,6 @@
 -- Names that are added to others.
 use Rattle.std.specs.Prelude.{◌≡◌, ℕ, ◌||◌, List}
-use Rattle.nest_mean.specs.NamesChanged.{is_among}
+use Rattle.nest_syntax.specs.Among.{is_among}
 
 -- that the new names are the old ones and those of a list, whatever their order
 abbrev pub Adds : List ℕ → List ℕ → List ℕ → Type 0

@@ -1,11 +1,12 @@
 -- The names that a body changes: those that it declares, those that it assigns, and those of its loops' variables.
-use Rattle.std.specs.Prelude.{◌≡◌, ℕ, ℤ, Bool, false, ◌==◌, List, [], ◌∷◌, ◌++◌, map, length}
-use Rattle.std.specs.List.{concat, list_any}
+use Rattle.std.specs.Prelude.{◌≡◌, ℕ, ℤ, false, List, [], ◌∷◌, ◌++◌, map, length}
+use Rattle.std.specs.List.{concat}
 use Rattle.nest_syntax.specs.declared.tree.Arm.{Arm}
 use Rattle.nest_syntax.specs.declared.tree.Loop.{Loop}
 use Rattle.nest_syntax.specs.declared.tree.Stmt.{Stmt}
 use Rattle.nest_syntax.specs.declared.tree.Stmt.TheOpen.{Stmt-F, Arm-F, Loop-F}
 use Rattle.nest_syntax.specs.declared.tree.Stmt.TheFolds.{fold-Stmt, fold-Arm, fold-Loop}
+use Rattle.nest_syntax.specs.Among.{is_among}
 use Rattle.nest_syntax.specs.Value.{scalar_at}
 
 -- one layer of a statement, an arm and a loop, with the names of its parts in their places
@@ -34,9 +35,6 @@ changed_in_loop = fold-Loop (List ℕ) (List ℕ) (List ℕ) changed_node change
 -- the names that a body changes, in the order of its text, as often as they stand there
 abbrev pub names_changed : List Stmt → List ℕ
 names_changed stmts = concat (map changed stmts)
-
-abbrev pub is_among : List ℕ → ℕ → Bool
-is_among names name = list_any (λ other. other == name) names
 
 -- no scalar but those of these names has changed
 pub record KeepsOthers (names : List ℕ) (old new : List ℤ) : Type 0 where

@@ -4,8 +4,7 @@ use Rattle.std.specs.List.{flat_map}
 use Rattle.nest_syntax.specs.declared.tree.Arm.{Arm}
 use Rattle.nest_syntax.specs.declared.tree.Loop.{Loop}
 use Rattle.nest_syntax.specs.declared.tree.Stmt.{Stmt}
-use Rattle.nest_syntax.specs.Course.{Setting, item_of, region_of}
-use Rattle.nest_syntax.proofs.Equations.{tested_of}
+use Rattle.nest_syntax.specs.Course.{Setting, item_of, region_of, tested_of}
 
 -- no arrays and no words
 abbrev pub bare : Setting

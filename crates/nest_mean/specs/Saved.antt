@@ -1,7 +1,7 @@
 -- Scalars that are put aside and put back.
 use Rattle.std.specs.Prelude.{◌≡◌, ℕ, ◌<◌, ℤ, true, List, [], ◌∷◌, length}
 use Rattle.nest_syntax.specs.Value.{scalar_at, with_scalar}
-use Rattle.nest_mean.specs.NamesChanged.{is_among}
+use Rattle.nest_syntax.specs.Among.{is_among}
 
 -- the second scalars with those of these names taken over from the first
 abbrev pub taken_over : List ℕ → List ℤ → List ℤ → List ℤ

@@ -10,7 +10,8 @@ ghost use Rattle.nest_syntax.specs.Reads.{on_words};
 ghost use Rattle.nest_syntax.specs.Course.{bodies_of};
 ghost use Rattle.nest_syntax.specs.Outcome.{body_at};
 ghost use Rattle.nest_syntax.proofs.Equations.{arm_effect};
-ghost use Rattle.nest_mean.specs.NamesChanged.{names_changed, changed, changed_in_arm, changed_in_loop, is_among};
+ghost use Rattle.nest_syntax.specs.Among.{is_among};
+ghost use Rattle.nest_mean.specs.NamesChanged.{names_changed, changed, changed_in_arm, changed_in_loop};
 ghost use Rattle.nest_mean.specs.TurnRun.{ended};
 ghost use Rattle.nest_mean.specs.TurnParts.{Runs, RunsArms, went_on_with, at_line, wrote};
 

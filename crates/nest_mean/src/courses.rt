@@ -2,9 +2,8 @@ ghost use Rattle.std.specs.Prelude.{◌≡◌, true, ◌+◌, ◌*◌, ◌<◌, 
 ghost use Rattle.std.specs.Int.{w64};
 ghost use Rattle.nest_syntax.specs.Words.{variable};
 ghost use Rattle.nest_syntax.specs.Arrays.{arrays_of, sizes_of};
-ghost use Rattle.nest_syntax.specs.Course.{item_of, looped_of, region_of};
+ghost use Rattle.nest_syntax.specs.Course.{item_of, looped_of, region_of, tested_of};
 ghost use Rattle.nest_syntax.specs.Outcome.{place_of_trap};
-ghost use Rattle.nest_syntax.proofs.Equations.{tested_of};
 ghost use Rattle.nest_mean.specs.CourseParts.{Passes, PassesArms, PassesTurns, items_in, setting_on, bodies_in, at_scheduler};
 
 use crate::events::{change_scheduled, scheduled, scheduled_header};

@@ -1,7 +1,8 @@
 //! The names that an invocation changes, each once.
 ghost use Rattle.std.specs.Prelude.{◌≡◌, ℕ, [], ◌∷◌, map, IfSome, OnOk};
 ghost use Rattle.std.specs.List.{concat};
-ghost use Rattle.nest_mean.specs.NamesChanged.{names_changed, changed, changed_in_arm, changed_in_loop, is_among};
+ghost use Rattle.nest_syntax.specs.Among.{is_among};
+ghost use Rattle.nest_mean.specs.NamesChanged.{names_changed, changed, changed_in_arm, changed_in_loop};
 ghost use Rattle.nest_mean.specs.Added.{Adds};
 
 use arrayvec::{ArrayVec, CapacityError};
@@ -33,7 +34,7 @@ fn add_name(name: u32, names: &mut FewNames) -> Result<(), CapacityError<u32>>
 fn has(names: &[u32], name: u32) -> bool
     ensures { result ≡ is_among names.now name }
 {
-    names.iter().any(|other| *other == name)
+    names.iter().any(|other| name == *other)
 }
 
 #[cycle(add)]

@@ -2,7 +2,8 @@ ghost use Rattle.std.specs.Prelude.{◌≡◌, ◌+◌, ◌<◌, ◌≤◌, ◌^
 ghost use Rattle.std.specs.Int.{w64};
 ghost use Rattle.nest_syntax.specs.Words.{variable};
 ghost use Rattle.nest_syntax.specs.Arrays.{arrays_of, sizes_of};
-ghost use Rattle.nest_mean.specs.NamesChanged.{names_changed, changed_in_loop, is_among};
+ghost use Rattle.nest_syntax.specs.Among.{is_among};
+ghost use Rattle.nest_mean.specs.NamesChanged.{names_changed, changed_in_loop};
 ghost use Rattle.nest_mean.specs.Saved.{AreSaved};
 ghost use Rattle.nest_mean.specs.CourseParts.{Iterates, IteratesAll, at_iteration, next_number};
 

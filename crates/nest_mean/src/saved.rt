@@ -1,6 +1,7 @@
 ghost use Rattle.std.specs.Prelude.{◌≡◌, ℕ, [], ◌∷◌, map, IfSome};
 ghost use Rattle.std.specs.List.{concat};
-ghost use Rattle.nest_mean.specs.NamesChanged.{names_changed, changed, changed_in_arm, changed_in_loop, is_among};
+ghost use Rattle.nest_syntax.specs.Among.{is_among};
+ghost use Rattle.nest_mean.specs.NamesChanged.{names_changed, changed, changed_in_arm, changed_in_loop};
 ghost use Rattle.nest_mean.specs.Saved.{taken_over};
 
 use crate::values::Scalars;

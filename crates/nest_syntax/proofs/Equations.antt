@@ -14,14 +14,14 @@ use Rattle.nest_syntax.specs.declared.tree.Arm.{Arm, roll-out-Arm, out-Arm}
 use Rattle.nest_syntax.specs.declared.tree.Loop.{Loop, roll-out-Loop, out-Loop}
 use Rattle.nest_syntax.specs.declared.tree.Stmt.{Stmt}
 use Rattle.nest_syntax.specs.declared.tree.Stmt.TheOpen.{Stmt-F}
-use Rattle.nest_syntax.specs.declared.tree.Stmt.TheFolds.{fold-roll-Stmt, fold_out-Arm, fold_out-Loop, fold-Arm, para-roll-Stmt, para-roll-Loop, para-roll-Arm, para-Arm}
+use Rattle.nest_syntax.specs.declared.tree.Stmt.TheFolds.{fold-roll-Stmt, fold_out-Arm, fold_out-Loop, fold-Arm, para-roll-Stmt, para-roll-Loop, para-roll-Arm}
 use Rattle.nest_syntax.specs.declared.tree.Stmt.TheVariants as stmt
 use Rattle.nest_syntax.specs.declared.tree.Stmt.TheVariants.{rolls-Declare, rolls-Assign, rolls-Write, rolls-If, rolls-Loop}
 use Rattle.nest_syntax.specs.Words.{is_zero, apply_un, turns, counted, variable}
 use Rattle.nest_syntax.specs.Arrays.{Array}
 use Rattle.nest_syntax.specs.Value.{value, value_node, and_then, operate, read, scalar_at, names_written, names_written_node, is_written}
 use Rattle.nest_syntax.specs.Turn.{Go, Reckoning, Effect, Arm_effect, reckoning, reckoning_node, effect, effect_node, arm_node, loop_node, loop_effect, sequence, looping}
-use Rattle.nest_syntax.specs.Course.{Setting, Item, Tested, Looped, item_node, tested_node, looped_node, item_of, looped_of}
+use Rattle.nest_syntax.specs.Course.{Setting, Item, Tested, Looped, item_node, tested_node, looped_node, item_of, tested_of, looped_of}
 
 -- the value of an expression
 module _ (arrays : List Array) (scalars words : List ℤ) where
@@ -109,11 +109,8 @@ module _ (arrays : List Array) where
   pub loop_effect-is : (l : Loop) → loop_effect arrays l ≡ (λ scalars go. reckoning arrays l.low l.line scalars (λ low. reckoning arrays l.high l.line scalars (λ high. looping l.line (counted (turns low high l.step l.through)) (variable low l.step) l.name (sequence (map (effect arrays) l.body)) scalars go)))
   loop_effect-is l = fold_out-Loop Effect Arm_effect Effect (effect_node arrays) (arm_node arrays) (loop_node arrays) l
 
--- what a statement and a loop are among the items
+-- what a statement, an arm and a loop are among the items
 module _ (setting : Setting) where
-  abbrev pub tested_of : Arm → Tested
-  tested_of = para-Arm Item Tested Looped (item_node setting) (tested_node setting) (looped_node setting)
-
   pub item-declare : (line : Line) (name : ℕ) (e : Expr) → item_of setting (stmt.Declare line name e) ≡ item_node setting (Stmt-F.Declare line name e)
   item-declare line name e = ap (item_of setting) (sym (rolls-Declare line name e)) ∙ para-roll-Stmt Item Tested Looped (item_node setting) (tested_node setting) (looped_node setting) (Stmt-F.Declare line name e)
 
@@ -123,7 +120,7 @@ module _ (setting : Setting) where
   pub item-write : (line : Line) (name : ℕ) (p : Expr) (o : Change) (e : Expr) → item_of setting (stmt.Write line name p o e) ≡ item_node setting (Stmt-F.Write line name p o e)
   item-write line name p o e = ap (item_of setting) (sym (rolls-Write line name p o e)) ∙ para-roll-Stmt Item Tested Looped (item_node setting) (tested_node setting) (looped_node setting) (Stmt-F.Write line name p o e)
 
-  pub item-if : (arms : List Arm) (other : List Stmt) → item_of setting (stmt.If arms other) ≡ item_node setting (Stmt-F.If (map (λ a. (a, tested_of a)) arms) (map (λ s. (s, item_of setting s)) other))
+  pub item-if : (arms : List Arm) (other : List Stmt) → item_of setting (stmt.If arms other) ≡ item_node setting (Stmt-F.If (map (λ a. (a, tested_of setting a)) arms) (map (λ s. (s, item_of setting s)) other))
   item-if arms other = ap (item_of setting) (sym (rolls-If arms other)) ∙ para-roll-Stmt Item Tested Looped (item_node setting) (tested_node setting) (looped_node setting) (Stmt-F.If arms other)
 
   pub item-loop : (l : Loop) → item_of setting (stmt.Loop l) ≡ (looped_of setting l).invocation
@@ -132,5 +129,5 @@ module _ (setting : Setting) where
   pub looped-is : (l : Loop) → looped_of setting l ≡ looped_node setting (record { line = l.line; name = l.name; low = l.low; high = l.high; through = l.through; step = l.step; body = map (λ s. (s, item_of setting s)) l.body })
   looped-is l = ap (looped_of setting) (sym (roll-out-Loop l)) ∙ para-roll-Loop Item Tested Looped (item_node setting) (tested_node setting) (looped_node setting) (out-Loop l)
 
-  pub tested-is : (a : Arm) → tested_of a ≡ tested_node setting (record { line = a.line; test = a.test; body = map (λ s. (s, item_of setting s)) a.body })
-  tested-is a = ap tested_of (sym (roll-out-Arm a)) ∙ para-roll-Arm Item Tested Looped (item_node setting) (tested_node setting) (looped_node setting) (out-Arm a)
+  pub tested-is : (a : Arm) → tested_of setting a ≡ tested_node setting (record { line = a.line; test = a.test; body = map (λ s. (s, item_of setting s)) a.body })
+  tested-is a = ap (tested_of setting) (sym (roll-out-Arm a)) ∙ para-roll-Arm Item Tested Looped (item_node setting) (tested_node setting) (looped_node setting) (out-Arm a)

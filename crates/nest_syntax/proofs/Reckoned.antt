@@ -1,5 +1,5 @@
 -- What an expression does, carried out on words, is its value: the turn goes on with it, or stops at its trap.
-use Rattle.std.proofs.Common.{◌≡◌, ℕ, ℤ, pos, Bool, true, false, if◌then◌else◌, Option, Some, None, Result, Ok, Err, List, refl, sym, ap, ◌∙◌, subst}
+use Rattle.std.proofs.Common.{◌≡◌, ℕ, ℤ, pos, Bool, true, false, if◌then◌else◌, Option, Some, None, Result, Ok, Err, List, refl, sym, ◌∙◌, subst}
 use Rattle.std.specs.Option.{option_map_or}
 use Rattle.nest_syntax.specs.declared.names.Line.{Line}
 use Rattle.nest_syntax.specs.declared.operators.Bin.{Bin}
@@ -12,7 +12,7 @@ use Rattle.nest_syntax.specs.declared.tree.Expr.TheFolds.{map-Expr, fold-roll-Ex
 use Rattle.nest_syntax.specs.Words.{is_zero, truth, apply, apply_un}
 use Rattle.nest_syntax.specs.Arrays.{Array, located, sizes_of, word_number, word_at}
 use Rattle.nest_syntax.specs.Value.{value, value_node, and_then, operate, read}
-use Rattle.nest_syntax.specs.Turn.{Turn, Trapped, Load, Op, Go, Reckoning, reckoning, reckoning_node, operation_turn, done_with, inside}
+use Rattle.nest_syntax.specs.Turn.{Turn, Load, Op, Go, Reckoning, reckoning, reckoning_node, operation_turn, done_with, inside}
 use Rattle.nest_syntax.specs.Reads.{Ended, Stopped, on_words}
 
 -- a turn that goes on with a result, or traps

@@ -9,7 +9,7 @@ use Rattle.nest_syntax.specs.declared.tree.Expr.{Expr}
 use Rattle.nest_syntax.specs.declared.tree.Stmt.{Stmt}
 use Rattle.nest_syntax.specs.declared.tree.Stmt.TheVariants as stmt
 use Rattle.nest_syntax.specs.declared.tree.Stmt.TheOpen.{Stmt-F, Arm-F, Loop-F}
-use Rattle.nest_syntax.specs.declared.tree.Stmt.TheFolds.{para-Stmt, para-Loop}
+use Rattle.nest_syntax.specs.declared.tree.Stmt.TheFolds.{para-Stmt, para-Arm, para-Loop}
 use Rattle.nest_syntax.specs.declared.tree.Arm.{Arm}
 use Rattle.nest_syntax.specs.declared.tree.Loop.{Loop}
 use Rattle.nest_syntax.specs.declared.tree.Decl.{Decl}
@@ -140,9 +140,12 @@ looped_node setting l = let items = items_of l.body in record {
   };
 }
 
--- what a statement is among the items, and what a loop is
+-- what a statement, an arm and a loop are among the items
 abbrev pub item_of : Setting → Stmt → Item
 item_of setting = para-Stmt Item Tested Looped (item_node setting) (tested_node setting) (looped_node setting)
+
+abbrev pub tested_of : Setting → Arm → Tested
+tested_of setting = para-Arm Item Tested Looped (item_node setting) (tested_node setting) (looped_node setting)
 
 abbrev pub looped_of : Setting → Loop → Looped
 looped_of setting = para-Loop Item Tested Looped (item_node setting) (tested_node setting) (looped_node setting)

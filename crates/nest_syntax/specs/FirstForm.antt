@@ -47,10 +47,6 @@ abbrev pub regions_of : First → List Loop
 regions_of first =
     loop_of first.outer (stmt.Loop (loop_of first.inner (stmt.Write first.write_line first.array first.place op.Set first.value ∷ [])) ∷ []) ∷ []
 
--- the program with these names
-abbrev pub program_of : List (List ℕ) → First → Program
-program_of names first = record { names = names; decls = decls_of first; regions = regions_of first }
-
 -- a number of the language: from 0 to 9,223,372,036,854,775,807
 abbrev pub is_number : ℤ → Bool
 is_number n = int_le (pos 0) n && int_le n (pos 9223372036854775807)

@@ -1,3 +1,4 @@
+pub mod Among
 pub mod Words
 pub mod Arrays
 pub mod Value

@@ -1,7 +1,8 @@
 use Rattle.std.proofs.Common.{◌≡◌, ◌<◌, ltb, leb, ◌||◌, ◌==◌, length, take, get_or, sym, ap, ◌∙◌, arith, rules}
 use Rattle.std.proofs.lemmas.List.Sorted.{IsPartitionPoint-from_clause, IsPartitionedBy-ltb, IsPartitionedBy-leb}
 use Rattle.graph_reach.specs.declared.Edge.{Edge}
-use Rattle.graph_reach.specs.Reached.{is_among, is_edge}
+use Rattle.nest_syntax.specs.Among.{is_among}
+use Rattle.graph_reach.specs.Reached.{is_edge}
 use Rattle.graph_reach.proofs.Edges.{Between, between, or_false, none_before, all_up_to, one_more, or_assoc, grown_same, grown_then}
 use Rattle.graph_reach.proofs.follow.Goals as goal
 

@@ -1,5 +1,6 @@
 use Rattle.std.proofs.Common.{◌≡◌, ℕ, ◌||◌, take}
-use Rattle.graph_reach.specs.Reached.{is_among, is_edge, IsGrown}
+use Rattle.nest_syntax.specs.Among.{is_among}
+use Rattle.graph_reach.specs.Reached.{is_edge, IsGrown}
 use Rattle.graph_reach.proofs.follow.Given as goal
 
 abbrev pub invariant-loop-index : goal.invariant-loop-index

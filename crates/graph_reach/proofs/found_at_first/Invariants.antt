@@ -1,5 +1,5 @@
 use Rattle.std.proofs.Common.{◌≡◌, ℕ, take}
-use Rattle.graph_reach.specs.Reached.{is_among}
+use Rattle.nest_syntax.specs.Among.{is_among}
 use Rattle.graph_reach.proofs.found_at_first.Given as goal
 
 abbrev pub invariant-loop-start : goal.invariant-loop-start

@@ -1,6 +1,6 @@
 use Rattle.std.proofs.Common.{ap, ◌∙◌}
 use Rattle.std.specs.List.{flat_map}
-use Rattle.graph_reach.specs.Reached.{is_among}
+use Rattle.nest_syntax.specs.Among.{is_among}
 use Rattle.data_local.specs.Rows.{row_edges, row_starts, row_names}
 use Rattle.data_local.proofs.Graphs.{reached_are}
 use Rattle.data_local.proofs.Listed.{listed_are}

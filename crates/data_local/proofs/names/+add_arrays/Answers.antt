@@ -1,5 +1,5 @@
 use Rattle.std.proofs.Common.{◌≡◌, ◌||◌, ap, ◌∙◌}
-use Rattle.graph_reach.specs.Reached.{is_among}
+use Rattle.nest_syntax.specs.Among.{is_among}
 use Rattle.data_local.specs.Names.{arrays_in}
 use Rattle.data_local.proofs.Parts.{on_ok, added_three, arrays_of_choice}
 use Rattle.data_local.proofs.names.+add_arrays.Goals as goal

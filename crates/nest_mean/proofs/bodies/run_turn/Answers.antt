@@ -4,7 +4,8 @@ use Rattle.nest_syntax.specs.Arrays.{arrays_of, sizes_of}
 use Rattle.nest_syntax.specs.Value.{scalar_at}
 use Rattle.nest_syntax.specs.Turn.{turn_of}
 use Rattle.nest_syntax.specs.Reads.{on_words}
-use Rattle.nest_mean.specs.NamesChanged.{names_changed, is_among}
+use Rattle.nest_syntax.specs.Among.{is_among}
+use Rattle.nest_mean.specs.NamesChanged.{names_changed}
 use Rattle.nest_mean.specs.TurnRun.{ended}
 use Rattle.nest_mean.proofs.Numbers.{body_is, too_many}
 use Rattle.nest_mean.proofs.bodies.run_turn.Goals as goal
