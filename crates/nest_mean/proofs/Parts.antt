@@ -14,7 +14,7 @@ use Rattle.nest_syntax.specs.declared.tree.Stmt.TheOpen.{Stmt-F}
 use Rattle.nest_syntax.specs.Words.{apply, operation_of, assigned}
 use Rattle.nest_syntax.specs.Arrays.{Array, array_of, sizes_of, place_of, located, word_number, word_at, with_word}
 use Rattle.nest_syntax.specs.Value.{value, scalar_at, with_scalar}
-use Rattle.nest_syntax.specs.Turn.{Turn, Finished, Store, Op as Op', Go, Effect, reckoning, inside, assigning, writing, sequence, repeat, effect, effect_node}
+use Rattle.nest_syntax.specs.Turn.{Turn, Store, Op as Op', Go, Effect, reckoning, inside, assigning, writing, sequence, repeat, effect, effect_node}
 use Rattle.nest_syntax.specs.Reads.{Stopped, on_words}
 use Rattle.nest_syntax.proofs.Equations.{effect-declare}
 use Rattle.nest_syntax.proofs.Reckoned.{answered, done_with-answered, reckoned}
