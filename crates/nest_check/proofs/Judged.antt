@@ -9,12 +9,12 @@ use Rattle.nest_syntax.specs.declared.tree.Decl.TheVariants as decl
 use Rattle.lowest_line.proofs.Lists.{lower_of-append}
 use Rattle.lowest_line.specs.Lowest.{lower_of, lowest, lines_where}
 use Rattle.data_local.specs.Bounds.{HasDataBound, IsLowest}
+use Rattle.nest_syntax.specs.Arrays.{arrays_of, array_names}
 use Rattle.nest_check.specs.Declarations.{Declaration, first_of_each, lines_of, names_of}
 use Rattle.nest_check.specs.Entries.{scheduler_scalars}
 use Rattle.nest_check.specs.Rules.{first_behind, array_lines, region_lines, part_line, is_deep, parts_of, deep_expressions}
 use Rattle.nest_check.specs.Kept.{KeepsRules}
 use Rattle.nest_check.specs.Broken.{Judged, first_broken, IsBroken}
-use Rattle.nest_check.specs.Tables.{array_names}
 
 some_lowest : (lines : List Line) (line : Line) → (found : Line) × (lower_of (Some line) lines ≡ Some found)
 some_lowest [] line = (line, refl)
@@ -78,12 +78,12 @@ few_behind many [] e = omega arith
 few_behind zero (line ∷ lines) e = absurd (cc)
 few_behind (suc many) (line ∷ lines) e = let few = few_behind many lines e in omega (arith, few)
 
-as_many_arrays : (decls : List Decl) → length (array_names decls) ≡ length (array_lines decls)
+as_many_arrays : (decls : List Decl) → length (array_names (arrays_of decls)) ≡ length (array_lines decls)
 as_many_arrays [] = refl
 as_many_arrays (decl.Array line name size fixed ∷ decls) = ap suc (as_many_arrays decls)
 as_many_arrays (decl.Scalar line name value ∷ decls) = as_many_arrays decls
 
-pub few_arrays : (program : Program) → KeepsRules program → length (array_names program.decls) ≤ 64
+pub few_arrays : (program : Program) → KeepsRules program → length (array_names (arrays_of program.decls)) ≤ 64
 few_arrays program kept = let few = few_behind 64 (array_lines program.decls) (nil_left _ _ kept.few) in omega (arith, few, as_many_arrays program.decls)
 
 pub few_array_lines : (program : Program) → KeepsRules program → length (array_lines program.decls) ≤ 64

@@ -1,13 +1,12 @@
 -- Tables of the places at which names stand first in a list.
-use Rattle.std.proofs.Common.{◌≡◌, ◌≢◌, ℕ, zero, suc, ◌+◌, ◌<◌, ◌≤◌, ◌==◌, Bool, true, false, if◌then◌else◌, Option, Some, None, List, [], ◌∷◌, map, length, drop, replicate, get_or, refl, sym, ap, ◌∙◌, subst, arith, drop-cons, add-one, ◌⊎◌, inl, inr}
+use Rattle.std.proofs.Common.{◌≡◌, ◌≢◌, ℕ, zero, suc, ◌+◌, ◌<◌, ◌≤◌, ◌==◌, Bool, true, false, if◌then◌else◌, Option, Some, None, List, [], ◌∷◌, length, drop, replicate, get_or, refl, sym, ap, ◌∙◌, subst, arith, drop-cons, add-one, ◌⊎◌, inl, inr}
 use Rattle.std.specs.Prelude.{is_none, slice_set}
 use Rattle.std.specs.Option.{option_map}
 use Rattle.std.proofs.lemmas.Bool.Decides.{eqb_tells}
 use Rattle.std.proofs.lemmas.List.{drop_all, get_or-set_same, get_or-set_other, length-set, length-replicate}
-use Rattle.nest_syntax.specs.declared.tree.Decl.{Decl}
-use Rattle.nest_syntax.specs.Arrays.{Array, arrays_of, array_of}
+use Rattle.nest_syntax.specs.Arrays.{Array, array_names, array_of}
 use Rattle.nest_check.specs.Declarations.{place_of_name}
-use Rattle.nest_check.specs.Tables.{at_name, place_noted, array_names}
+use Rattle.nest_check.specs.Tables.{at_name, place_noted}
 
 abbrev pub found_or : Option ℕ → Option ℕ → Option ℕ
 found_or None other = other
@@ -96,9 +95,6 @@ pub placing_ends : (names : List ℕ) (table : List (Option ℕ)) (i place : ℕ
 placing_ends names table i place over placing name =
     sym (or_none (at_name table name)) ∙ ap (λ ns. found_or (at_name table name) (option_map (λ p. i + p) (place_of_name ns name))) (sym (drop_all i names over)) ∙ placing.places name
 
-pub array_place : (decls : List Decl) (name : ℕ) → place_of_name (array_names decls) name ≡ array_of (arrays_of decls) name
-array_place decls name = of (arrays_of decls)
-  where
-    of : (arrays : List Array) → place_of_name (map (λ (a : Array). a.name) arrays) name ≡ array_of arrays name
-    of [] = refl
-    of (a ∷ arrays) = ap (λ o. if a.name == name then Some 0 else option_map suc o) (of arrays)
+pub array_place : (arrays : List Array) (name : ℕ) → place_of_name (array_names arrays) name ≡ array_of arrays name
+array_place [] name = refl
+array_place (a ∷ arrays) name = ap (λ o. if a.name == name then Some 0 else option_map suc o) (array_place arrays name)

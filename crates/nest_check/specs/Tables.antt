@@ -1,9 +1,8 @@
 -- Tables by the number of a name.
-use Rattle.std.specs.Prelude.{◌≡◌, ℕ, if◌then◌else◌, is_none, Option, Some, None, List, map, slice_index_or, slice_set}
-use Rattle.nest_syntax.specs.declared.tree.Decl.{Decl}
+use Rattle.std.specs.Prelude.{◌≡◌, ℕ, if◌then◌else◌, is_none, Option, Some, None, List, slice_index_or, slice_set}
 use Rattle.nest_syntax.specs.declared.tree.Program.{Program}
 use Rattle.nest_syntax.specs.Named.{IsWellNamed}
-use Rattle.nest_syntax.specs.Arrays.{Array, arrays_of, sizes_of, array_of}
+use Rattle.nest_syntax.specs.Arrays.{arrays_of, sizes_of, array_of}
 use Rattle.nest_syntax.specs.Course.{bodies_of}
 use Rattle.data_local.specs.Bodies.{AreLocalsByBody}
 use Rattle.nest_check.specs.Declarations.{first_of_each, names_of, place_of_name}
@@ -13,9 +12,6 @@ use Rattle.nest_check.specs.Kept.{KeepsRules}
 -- The number of a scheduler scalar's name, in the order of first declaration; none where it is none.
 abbrev pub scalar_of : Program → ℕ → Option ℕ
 scalar_of program name = place_of_name (names_of (first_of_each (scheduler_scalars program))) name
-
-abbrev pub array_names : List Decl → List ℕ
-array_names decls = map (λ (a : Array). a.name) (arrays_of decls)
 
 -- what a table has for a name
 abbrev pub at_name : List (Option ℕ) → ℕ → Option ℕ

@@ -1,6 +1,6 @@
 ghost use Rattle.std.specs.Prelude.{◌≡◌, ◌<◌, ◌≤◌, ◌^◌, ◌↔◌, length, sum, IsTrue, IfOk};
 ghost use Rattle.nest_syntax.specs.Named.{IsWellNamed};
-ghost use Rattle.nest_syntax.specs.Arrays.{arrays_of, sizes_of, array_of};
+ghost use Rattle.nest_syntax.specs.Arrays.{arrays_of, sizes_of, array_names, array_of};
 ghost use Rattle.nest_check.specs.Declarations.{first_of_each};
 ghost use Rattle.nest_check.specs.Entries.{scheduler_scalars};
 ghost use Rattle.nest_syntax.specs.Course.{bodies_of};
@@ -103,6 +103,13 @@ impl Checked {
         ensures { result.now ≡ sizes_of (arrays_of self.now.decls) }
     {
         self.lengths.as_slice()
+    }
+
+    /// The names of the arrays, in the order of declaration.
+    pub fn array_names(&self, alloc: Global) -> Result<Vec<u32>, NoMemory>
+        ensures { IfOk result (λ names. names.items ≡ array_names (arrays_of self.now.decls)) }
+    {
+        array_names(alloc, self.program.decls.as_slice())
     }
 
     /// The number of the array with this name, in the order of declaration. None comes exactly where no array has it.

@@ -1,7 +1,7 @@
 ghost use Rattle.std.specs.Prelude.{◌≡◌, ◌<◌, ◌^◌, ℕ, IfOk, length, map, EachIndex, slice_index, replicate, None};
-ghost use Rattle.nest_syntax.specs.Arrays.{Array, arrays_of, sizes_of};
+ghost use Rattle.nest_syntax.specs.Arrays.{Array, arrays_of, sizes_of, array_names};
 ghost use Rattle.nest_check.specs.Declarations.{names_of, place_of_name};
-ghost use Rattle.nest_check.specs.Tables.{at_name, array_names, place_noted};
+ghost use Rattle.nest_check.specs.Tables.{at_name, place_noted};
 
 use nest_syntax::{Decl, Line, NoMemory};
 use std::alloc::Global;
@@ -22,7 +22,7 @@ pub(crate) fn lengths_of(alloc: Global, decls: &[Decl]) -> Result<Vec<u64>, NoMe
 
 /// The names of the declared arrays, in order.
 pub(crate) fn array_names(alloc: Global, decls: &[Decl]) -> Result<Vec<u32>, NoMemory>
-    ensures { IfOk result (λ names. names.items ≡ array_names decls.now) }
+    ensures { IfOk result (λ names. names.items ≡ array_names (arrays_of decls.now)) }
 {
     let mut names = Vec::new(alloc);
     for decl in decls {

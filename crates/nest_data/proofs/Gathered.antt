@@ -6,10 +6,10 @@ use Rattle.std.proofs.lemmas.List.{get_or-set_same, get_or-set_other, length-set
 use Rattle.std.proofs.lemmas.List.Quantifiers.{position-Some}
 use Rattle.std.proofs.lemmas.List.Sums.{sum_by_more_le}
 use Rattle.std.proofs.lemmas.Bool.{cases_eq, eqb-true, eq-eqb, ne_eqb, cond-true, cond-false}
-use Rattle.nest_syntax.specs.Arrays.{Array, sizes_of}
+use Rattle.nest_syntax.specs.Arrays.{Array, sizes_of, array_names}
 use Rattle.word_store.specs.Memory.{Memory, array_words, zeros}
 use Rattle.nest_data.specs.Lines.{lines_of, words_of}
-use Rattle.nest_data.specs.Data.{Read, array_names, array_named, values_of, counted, with_array, and_then, behind_values, behind_words, opening, outcome, data_of}
+use Rattle.nest_data.specs.Data.{Read, array_named, values_of, counted, with_array, and_then, behind_values, behind_words, opening, outcome, data_of}
 use Rattle.nest_data.specs.OfLines.{values_for, values_in, AreOfLines}
 use Rattle.nest_data.specs.declared.refused.DataKind.{DataKind}
 use Rattle.nest_data.specs.declared.refused.DataKind.TheVariants as kind

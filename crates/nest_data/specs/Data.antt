@@ -4,7 +4,7 @@ use Rattle.std.specs.List.{position}
 use Rattle.std.specs.Option.{option_map, option_and_then, ok_or}
 use Rattle.std.specs.Result.{result_map_both}
 use Rattle.std.specs.Str.{bytes_eq}
-use Rattle.nest_syntax.specs.Arrays.{Array, sizes_of}
+use Rattle.nest_syntax.specs.Arrays.{Array, sizes_of, array_names}
 use Rattle.word_store.specs.Memory.{Memory, zeros}
 use Rattle.nest_data.specs.Lines.{lines_of, words_of}
 use Rattle.nest_data.specs.Values.{value_of}
@@ -12,10 +12,6 @@ use Rattle.nest_data.specs.declared.refused.DataKind.{DataKind}
 use Rattle.nest_data.specs.declared.refused.DataKind.TheVariants as kind
 use Rattle.nest_data.specs.declared.refused.DataRefused.{DataRefused}
 use Rattle.nest_data.specs.declared.refused.DataRefused.TheVariants as refused
-
--- the names of the arrays, as numbers among the names of the program
-abbrev pub array_names : List Array → List ℕ
-array_names arrays = map (λ (a : Array). a.name) arrays
 
 -- the number of the first array whose name is this word
 abbrev pub array_named : List (List ℕ) → List ℕ → List ℕ → Option ℕ

@@ -1,10 +1,10 @@
 -- The words of a data part, array by array.
 use Rattle.std.specs.Prelude.{◌≡◌, ℕ, ◌<◌, ℤ, pos, false, ◌==◌, if◌then◌else◌, Option, None, List, [], ◌∷◌, length, replicate, slice_index_or}
 use Rattle.std.specs.Option.{option_map_or, unwrap_or}
-use Rattle.nest_syntax.specs.Arrays.{Array, sizes_of}
+use Rattle.nest_syntax.specs.Arrays.{Array, sizes_of, array_names}
 use Rattle.word_store.specs.Memory.{Memory, array_words}
 use Rattle.nest_data.specs.Lines.{words_of}
-use Rattle.nest_data.specs.Data.{array_names, array_named, values_of}
+use Rattle.nest_data.specs.Data.{array_named, values_of}
 
 -- the values of a line with these words, where its first word names the array with this number
 abbrev pub values_for : List (List ℕ) → List ℕ → ℕ → List (List ℕ) → Option (List ℤ)

@@ -1,27 +1,10 @@
 //! The arrays of a program, by their names.
-ghost use Rattle.std.specs.Prelude.{◌≡◌, ◌<◌, ◌^◌, [], length, IfOk, IfSome, slice_index_or};
+ghost use Rattle.std.specs.Prelude.{◌≡◌, ◌<◌, ◌^◌, [], length, IfSome, slice_index_or};
 ghost use Rattle.std.specs.List.{position};
 ghost use Rattle.std.specs.Str.{bytes_eq};
-ghost use Rattle.nest_syntax.specs.Arrays.{arrays_of};
-ghost use Rattle.nest_data.specs.Data.{array_names, array_named};
+ghost use Rattle.nest_data.specs.Data.{array_named};
 
-use nest_syntax::{Decl, Name, NoMemory};
-use sqlite_items::Items;
-use std::alloc::Global;
-
-/// The names of the declared arrays, in order.
-pub(crate) fn names_of(alloc: Global, decls: &[Decl]) -> Result<Vec<u32>, NoMemory>
-    ensures { IfOk result (λ names. names.items ≡ array_names (arrays_of decls.now)) }
-{
-    let mut names = Vec::new(alloc);
-    for decl in decls {
-        match decl {
-            Decl::Array { name, .. } => names.push(*name)?,
-            Decl::Scalar { .. } => {}
-        }
-    }
-    Ok(names)
-}
+use nest_syntax::Name;
 
 /// The bytes of a name. A name that isn't there has none.
 pub(crate) fn name_bytes(names: &[Name], name: u32) -> &[u8]

@@ -5,7 +5,6 @@ ghost use Rattle.nest_data.specs.Data.{data_of, Tells};
 ghost use Rattle.nest_data.specs.Lines.{lines_of};
 ghost use Rattle.nest_data.specs.OfLines.{AreOfLines};
 
-use crate::arrays::names_of;
 use crate::progress::Progress;
 use crate::refused::DataRefused;
 use nest_check::Checked;
@@ -29,7 +28,7 @@ pub fn read_data(
     ensures sizes { IfOk result (λ words. words.sizes ≡ sizes_of (arrays_of checked.now.decls)) }
 {
     let program = checked.program();
-    let arrays = names_of(alloc, program.decls.as_slice())?;
+    let arrays = checked.array_names(alloc)?;
     let progress = Progress::open(alloc, checked.lengths())?;
     progress.read_lines(
         program.names.as_slice(),

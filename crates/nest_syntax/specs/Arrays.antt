@@ -20,6 +20,10 @@ arrays_of (decl.Scalar line name value ∷ decls) = arrays_of decls
 abbrev pub sizes_of : List Array → List ℕ
 sizes_of arrays = map (λ (a : Array). a.size) arrays
 
+-- the names of arrays, as numbers among the names of the program
+abbrev pub array_names : List Array → List ℕ
+array_names arrays = map (λ (a : Array). a.name) arrays
+
 -- the number of the array with this name
 abbrev pub array_of : List Array → ℕ → Option ℕ
 array_of [] name = None
