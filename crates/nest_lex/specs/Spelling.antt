@@ -1,5 +1,5 @@
 -- How the bytes of a token are written.
-use Rattle.std.specs.Prelude.{◌≡◌, ℕ, ◌+◌, ◌-◌, ◌*◌, ◌≤◌, true, List, length, slice_index, codes, fold}
+use Rattle.std.specs.Prelude.{◌≡◌, ℕ, ◌+◌, ◌-◌, ◌*◌, ◌≤◌, Bool, true, ◌==◌, ◌&&◌, not, nat_le, if◌then◌else◌, Option, Some, None, List, length, slice_index, codes, fold}
 use Rattle.std.specs.List.{list_all}
 use Rattle.nest_lex.specs.Bytes.{is_letter, is_digit, is_word_byte}
 use Rattle.nest_lex.specs.declared.token.Keyword.{Keyword}
@@ -103,6 +103,14 @@ pub record IsName (bytes : List ℕ) : Type 0 where
 -- what decimal digits say
 abbrev pub decimal : List ℕ → ℕ
 decimal bytes = fold (λ value digit. 10 * value + (digit - 48)) 0 bytes
+
+-- at least one digit, and nothing else
+abbrev pub are_digits : List ℕ → Bool
+are_digits bytes = not (length bytes == 0) && list_all is_digit bytes
+
+-- what digits say, where it is at most so much. There may be zeros in front.
+abbrev pub number_within : ℕ → List ℕ → Option ℕ
+number_within most bytes = if are_digits bytes && nat_le (decimal bytes) most then Some (decimal bytes) else None
 
 -- digits that say n, at most 2^63 - 1. The first is 0 only where it is the only one.
 pub record IsNumber (bytes : List ℕ) (n : ℕ) : Type 0 where
