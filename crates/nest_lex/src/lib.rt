@@ -26,6 +26,3 @@ pub use lexer::{lex, one_answer};
 pub use number::number_within;
 pub use refused::{LexKind, LexRefused};
 pub use token::{Keyword, Kind, Mark, Spot, Token, Tokens};
-
-#[cfg(test)]
-mod tests;

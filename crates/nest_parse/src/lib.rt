@@ -18,8 +18,3 @@ mod value;
 
 pub use parser::parse;
 pub use refused::ParseRefused;
-
-#[cfg(test)]
-mod shown;
-#[cfg(test)]
-mod tests;

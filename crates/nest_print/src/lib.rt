@@ -7,6 +7,3 @@
 mod print;
 
 pub use print::{Standing, print_program};
-
-#[cfg(test)]
-mod tests;

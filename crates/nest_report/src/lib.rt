@@ -6,6 +6,3 @@
 mod trap;
 
 pub use trap::print_place;
-
-#[cfg(test)]
-mod tests;

@@ -1,4 +1,4 @@
-//! Tables of nests with their data and what their runs come to: read by the readers of an input, run in textual order.
+//! What a job's copy has, and what one iteration leaves: the calls of `nest_mean` that `plain` doesn't show.
 //!
 //! Here are tests alone. They read their nests by the parser and the checker, on which `nest_mean` stands only in part.
 #![tactic(auto)]
@@ -6,12 +6,6 @@
 #[cfg(test)]
 mod copied;
 #[cfg(test)]
-mod expressions;
-#[cfg(test)]
-mod nests;
-#[cfg(test)]
-mod told;
-#[cfg(test)]
-mod traps;
+mod jobs;
 #[cfg(test)]
 mod turns;

@@ -1,5 +1,5 @@
-use crate::nests::SCATTER;
-use crate::told::{job_of, lines};
+use crate::jobs::{SCATTER, job_of};
+use nest_data::print_words;
 use nest_mean::{Scalars, TurnTrap, has_body, run_turn};
 use nest_syntax::{Cause, Line};
 use std::alloc::{AllocError, Global};
@@ -25,9 +25,7 @@ fn turned(
     body: u32,
     scalars: &[(u32, i64)],
 ) -> Result<(Vec<u8>, Option<TurnTrap>), AllocError> {
-    let Some(job) = job_of(rt, alloc, input)? else {
-        return Err(AllocError);
-    };
+    let job = job_of(rt, alloc, input)?;
     let checked = job.checked();
     let Ok(mut words) = job.words().copy(alloc) else {
         return Err(AllocError);
@@ -43,7 +41,10 @@ fn turned(
     let there = has_body(checked, body);
     assert!(rt; there);
     let trap = run_turn(checked, body, &mut values, &mut words).err();
-    Ok((lines(rt, alloc, &words, checked)?, trap))
+    let Ok(text) = print_words(alloc, &words, checked) else {
+        return Err(AllocError);
+    };
+    Ok((text, trap))
 }
 
 fn stopped(cause: Cause) -> Option<TurnTrap> {

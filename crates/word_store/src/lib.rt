@@ -12,6 +12,3 @@ pub use memory::Words;
 pub use nest_syntax::Cause;
 pub use operations::{apply, apply_un, assign};
 pub use turns::{count_turns, value_in_turn};
-
-#[cfg(test)]
-mod tests;
