@@ -13,6 +13,3 @@ mod word_set;
 pub use claim_set::Claims;
 pub use law::claims_hold_turns;
 pub use walk::claims;
-
-#[cfg(test)]
-mod tests;

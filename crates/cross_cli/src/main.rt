@@ -1,31 +1,12 @@
-//! The program `cross`: reads a nest with its data lines from standard input, and prints its outcome or its canonical
-//! text.
-//!
-//! `cross_quiet` is the top call, over any source and sink; `main` gives it the real streams.
+//! The program `cross`: `cross_quiet` of `cross_top` over the command words and the standard streams.
 #![tactic(auto)]
 
-mod alone;
-mod answers;
-mod laws;
-#[cfg(test)]
-mod nests;
-mod refusals;
-mod report;
-mod status;
-#[cfg(test)]
-mod tests;
-mod top;
-mod words;
-
-pub use laws::one_answer;
+use cross_top::{Status, cross_quiet};
 use nest_io::{StdSink, StdSource};
 use nest_syntax::NoMemory;
-pub use status::{Ended, Status};
 use std::env;
 use std::process::ExitCode;
 use std::rt::Env;
-pub use top::cross_quiet;
-pub use words::Action;
 
 fn main(rt: HostRuntime) -> ExitCode {
     let words = match command_words(&rt) {

@@ -11,8 +11,6 @@ mod memory_sink;
 mod memory_source;
 mod standard;
 mod stream;
-#[cfg(test)]
-mod tests;
 mod transfer;
 
 pub use fault::{ReadFailed, TakeFault, WriteFailed};

@@ -5,6 +5,3 @@
 mod relay;
 
 pub use relay::Relay;
-
-#[cfg(test)]
-mod tests;

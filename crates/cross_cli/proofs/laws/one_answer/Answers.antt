@@ -1,5 +1,0 @@
-use Rattle.cross_cli.proofs.OneAnswer.{one_answer}
-use Rattle.cross_cli.proofs.laws.one_answer.Goals as goal
-
-pub returns : goal.returns
-returns c = one_answer c.one_saying.ensures.nest c.one_saying.ensures.words

@@ -1,0 +1,48 @@
+-- An input has one answer, as it says one thing.
+use Rattle.std.proofs.Common.{◌≡◌, ℕ, ℤ, Result, Ok, Err, List, sym, subst, ◌∙◌, arith}
+use Rattle.nest_syntax.specs.declared.tree.Program.{Program}
+use Rattle.word_store.specs.Memory.{Memory}
+use Rattle.nest_input.specs.declared.refused.Refusal.{Refusal}
+use Rattle.nest_input.specs.Input.{SaysNest, SaysWords}
+use Rattle.cross_top.specs.declared.words.Action.{Action}
+use Rattle.cross_top.specs.declared.words.Action.TheVariants.{Plain, Check, Alone}
+use Rattle.cross_top.specs.Answers.{Answer, AnswersPlain, AnswersAlone, runs, no_form, AnswersWords, AnswersData, AnswersProgram, AnswersNest, too_long, a_text, OneAnswer}
+
+-- to each list of words there is one answer
+abbrev IsOne : (List ℤ → Answer → Type 0) → Type 0
+IsOne Acts = (words : List ℤ) (answer other : Answer) → Acts words answer → Acts words other → answer ≡ other
+
+one_plain : (program : Program) → IsOne (AnswersPlain program)
+one_plain program words answer other is is' = is ∙ sym is'
+
+one_alone : (program : Program) → IsOne (AnswersAlone program)
+one_alone program words answer other (runs first is) (runs first' is') = is ∙ sym is'
+one_alone program words answer other (runs first is) (no_form none is') = absurd (none first)
+one_alone program words answer other (no_form none is) (runs first is') = absurd (none first)
+one_alone program words answer other (no_form none is) (no_form none' is') = is ∙ sym is'
+
+of_words : (Acts : List ℤ → Answer → Type 0) → IsOne Acts → (said : Result Memory Refusal) (answer other : Answer) → AnswersWords Acts said answer → AnswersWords Acts said other → answer ≡ other
+of_words Acts one (Ok memory) answer other is is' = one memory.words answer other is is'
+of_words Acts one (Err why) answer other is is' = is ∙ sym is'
+
+module _ (one_nest : (input : List ℕ) (said other : Result Program Refusal) → SaysNest input said → SaysNest input other → said ≡ other)
+    (one_words : (input : List ℕ) (program : Program) (said other : Result Memory Refusal) → SaysWords input program said → SaysWords input program other → said ≡ other) where
+  of_data : (Acts : List ℤ → Answer → Type 0) → IsOne Acts → (input : List ℕ) (program : Program) (answer other : Answer) → AnswersData Acts input program answer → AnswersData Acts input program other → answer ≡ other
+  of_data Acts one input program answer other is is' =
+      of_words Acts one is'.said answer other (subst (λ said. AnswersWords Acts said answer) (one_words input program is.said is'.said is.says is'.says) is.answers) is'.answers
+
+  of_program : (action : Action) (input : List ℕ) (program : Program) (answer other : Answer) → AnswersProgram action input program answer → AnswersProgram action input program other → answer ≡ other
+  of_program Plain input program answer other is is' = of_data (AnswersPlain program) (one_plain program) input program answer other is is'
+  of_program Check input program answer other is is' = is ∙ sym is'
+  of_program Alone input program answer other is is' = of_data (AnswersAlone program) (one_alone program) input program answer other is is'
+
+  of_nest : (action : Action) (input : List ℕ) (said : Result Program Refusal) (answer other : Answer) → AnswersNest action input said answer → AnswersNest action input said other → answer ≡ other
+  of_nest action input (Ok program) answer other is is' = of_program action input program answer other is is'
+  of_nest action input (Err why) answer other is is' = is ∙ sym is'
+
+  pub one_answer : OneAnswer
+  one_answer action input answer other (too_long long is) (too_long long' is') = is ∙ sym is'
+  one_answer action input answer other (too_long long is) (a_text few said says is') = absurd (omega (arith, long, few))
+  one_answer action input answer other (a_text few said says is) (too_long long is') = absurd (omega (arith, long, few))
+  one_answer action input answer other (a_text few said says is) (a_text few' said' says' is') =
+      of_nest action input said' answer other (subst (λ s. AnswersNest action input s answer) (one_nest input said said' says says') is) is'

@@ -1,0 +1,78 @@
+ghost use Rattle.std.specs.Prelude.{◌≡◌, true, IfOk};
+ghost use Rattle.nest_syntax.specs.FirstForm.{IsFirstForm};
+ghost use Rattle.domore_engine.specs.Engine.{is_finished};
+ghost use Rattle.cross_top.specs.Answers.{alone_answer, alone_options, job_of};
+ghost use Rattle.cross_top.specs.Told.{told, done_text};
+
+use crate::answers::Reply;
+use crate::report::domore_report;
+use crate::status::Status;
+use domore_engine::Domore;
+use lone_crew::lone_run;
+use nest_data::print_words;
+use nest_mean::Job;
+use nest_report::print_place;
+use nest_syntax::NoMemory;
+use progress_board::{Ending, Engine, Machine, Options, Sign};
+use std::alloc::Global;
+
+/// The outcome of a job by the engine `domore` on one thread, by the rotation, with its report.
+pub fn alone(alloc: Global, job: Job) -> Result<Reply, NoMemory>
+    requires form { IsFirstForm job.program }
+    requires own { job ≡ job_of job.program job.opening.words }
+    ensures { IfOk result (λ reply. reply ≡ alone_answer job.program job.opening.words) }
+{
+    let mut machine = Domore::open(alloc, job, alone_options())?;
+    let mut history = Vec::new(alloc);
+    lone_run(&mut machine, &[], &mut history)?;
+    told(alloc, &machine, history)
+}
+
+fn alone_options() -> Options
+    ensures { result ≡ alone_options }
+{
+    Options {
+        engine: Engine::Domore,
+        workers: 2,
+        queue: 16,
+        sign: Sign::Range,
+        segment: 16,
+        distance: 4,
+    }
+}
+
+/// What a finished machine tells.
+fn told(alloc: Global, machine: &Domore, history: Vec<u8>) -> Result<Reply, NoMemory>
+    requires { is_finished machine.now ≡ true }
+    ensures { IfOk result (λ reply. reply ≡ told machine.now history.items) }
+{
+    match machine.ending() {
+        Ending::Done => {
+            let text = done_text(alloc, machine)?;
+            Ok(Reply {
+                status: Status::Done,
+                text,
+                history,
+            })
+        }
+        Ending::Trapped(place) => {
+            let text = print_place(alloc, &place)?;
+            Ok(Reply {
+                status: Status::Trapped,
+                text,
+                history,
+            })
+        }
+        Ending::Unfinished => unreachable!(),
+    }
+}
+
+/// The arrays, and the report.
+fn done_text(alloc: Global, machine: &Domore) -> Result<Vec<u8>, NoMemory>
+    ensures { IfOk result (λ text. text.items ≡ done_text machine.now) }
+{
+    let mut text = print_words(alloc, machine.words(), machine.job().checked())?;
+    let report = domore_report(alloc, machine.facts())?;
+    text.extend_from_slice(report.as_slice())?;
+    Ok(text)
+}

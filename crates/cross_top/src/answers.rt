@@ -1,0 +1,157 @@
+ghost use Rattle.std.specs.Prelude.{◌≡◌, ◌≤◌, IfOk, length};
+ghost use Rattle.nest_io.specs.declared.transfer.TheConstants.{MOST_BYTES};
+ghost use Rattle.cross_top.specs.Answers.{refusal, refused_answer, plain_answer, check_answer};
+ghost use Rattle.cross_top.specs.Answers.{AnswersInput, AnswersProgram, AnswersAlone};
+
+use crate::alone::alone;
+use crate::refusals::reason_text;
+use crate::status::Status;
+use crate::words::Action;
+use first_form::is_first_form;
+use nest_check::Checked;
+use nest_data::print_words;
+use nest_input::{InputRefused, Refusal, read_nest, read_words};
+use nest_mean::{Job, Outcome, run_plain};
+use nest_print::print_program;
+use nest_report::print_place;
+use nest_syntax::NoMemory;
+use std::alloc::Global;
+use std::marker::Model;
+
+/// What is due: a status, the bytes to print, and the steps that an engine made.
+#[derive(Drop)]
+pub struct Reply {
+    pub status: Status,
+    pub text: Vec<u8>,
+    pub history: Vec<u8>,
+}
+
+impl Model for Reply {
+    ghost use Rattle.cross_top.specs.Answers.{Answer};
+
+    ghost Value = { Answer };
+
+    ghost view = { λ r. record { status = r.status; bytes = r.text.items; history = r.history.items } };
+}
+
+/// The line of a refusal.
+pub fn refusal(alloc: Global, status: Status, reason: &[u8]) -> Result<Reply, NoMemory>
+    ensures { IfOk result (λ reply. reply ≡ refusal status reason.now) }
+{
+    let mut text = Vec::from_slice(alloc, b"refused: ")?;
+    text.extend_from_slice(reason)?;
+    text.push(b'\n')?;
+    Ok(Reply {
+        status,
+        text,
+        history: Vec::new(alloc),
+    })
+}
+
+/// The answer to an input that is refused.
+fn refused(alloc: Global, why: Refusal) -> Result<Reply, NoMemory>
+    ensures { IfOk result (λ reply. reply ≡ refused_answer why) }
+{
+    let reason = reason_text(alloc, &why)?;
+    refusal(alloc, Status::TextRefused, reason.as_slice())
+}
+
+/// What an action answers to an input.
+pub fn answer_input(alloc: Global, action: Action, input: &[u8]) -> Result<Reply, NoMemory>
+    requires { length input.now ≤ MOST_BYTES }
+    ensures { IfOk result (λ reply. AnswersInput action input.now reply) }
+{
+    match read_nest(alloc, input) {
+        Ok(checked) => answer_program(alloc, action, input, checked),
+        Err(InputRefused::Refused(why)) => refused(alloc, why),
+        Err(InputRefused::NoMemory) => Err(NoMemory),
+    }
+}
+
+/// What an action answers to an input with this program.
+fn answer_program(
+    alloc: Global,
+    action: Action,
+    input: &[u8],
+    checked: Checked,
+) -> Result<Reply, NoMemory>
+    requires { length input.now ≤ MOST_BYTES }
+    ensures { IfOk result (λ reply. AnswersProgram action input.now checked reply) }
+{
+    match action {
+        Action::Plain => plain_of(alloc, input, checked),
+        Action::Check => canonical(alloc, &checked),
+        Action::Alone => alone_of(alloc, input, checked),
+    }
+}
+
+/// The canonical text of a program.
+fn canonical(alloc: Global, checked: &Checked) -> Result<Reply, NoMemory>
+    ensures { IfOk result (λ reply. reply ≡ check_answer checked.now) }
+{
+    let text = print_program(alloc, checked.program())?;
+    Ok(Reply {
+        status: Status::Done,
+        text,
+        history: Vec::new(alloc),
+    })
+}
+
+/// What `plain` answers to an input with this program.
+fn plain_of(alloc: Global, input: &[u8], checked: Checked) -> Result<Reply, NoMemory>
+    requires { length input.now ≤ MOST_BYTES }
+    ensures { IfOk result (λ reply. AnswersProgram Action.Plain input.now checked reply) }
+{
+    match read_words(alloc, input, &checked) {
+        Ok(words) => plain(alloc, &Job::new(checked, words)),
+        Err(InputRefused::Refused(why)) => refused(alloc, why),
+        Err(InputRefused::NoMemory) => Err(NoMemory),
+    }
+}
+
+/// What `alone` answers to an input with this program.
+fn alone_of(alloc: Global, input: &[u8], checked: Checked) -> Result<Reply, NoMemory>
+    requires { length input.now ≤ MOST_BYTES }
+    ensures { IfOk result (λ reply. AnswersProgram Action.Alone input.now checked reply) }
+{
+    match read_words(alloc, input, &checked) {
+        Ok(words) => alone_or_refused(alloc, Job::new(checked, words)),
+        Err(InputRefused::Refused(why)) => refused(alloc, why),
+        Err(InputRefused::NoMemory) => Err(NoMemory),
+    }
+}
+
+/// The outcome by the engine, where the program is of the first form.
+fn alone_or_refused(alloc: Global, job: Job) -> Result<Reply, NoMemory>
+    ensures { IfOk result (λ reply. AnswersAlone job.program job.opening.words reply) }
+{
+    if is_first_form(job.checked().program()) {
+        alone(alloc, job)
+    } else {
+        refusal(alloc, Status::TextRefused, b"form")
+    }
+}
+
+/// The outcome of textual order.
+fn plain(alloc: Global, job: &Job) -> Result<Reply, NoMemory>
+    ensures { IfOk result (λ reply. reply ≡ plain_answer job.now.program job.now.opening.words) }
+{
+    match run_plain(alloc, job)? {
+        Outcome::Done(words) => {
+            let text = print_words(alloc, &words, job.checked())?;
+            Ok(Reply {
+                status: Status::Done,
+                text,
+                history: Vec::new(alloc),
+            })
+        }
+        Outcome::Trapped(place) => {
+            let text = print_place(alloc, &place)?;
+            Ok(Reply {
+                status: Status::Trapped,
+                text,
+                history: Vec::new(alloc),
+            })
+        }
+    }
+}

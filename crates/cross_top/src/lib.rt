@@ -1,0 +1,19 @@
+//! What the program `cross` does with its command words and an input.
+//!
+//! In come words, a source and a sink, out come the bytes that are due and a status. `cross_quiet` is the top call;
+//! `Ends` of specs/Ends says what it does, and `one_answer` that this is a function of words and input.
+#![tactic(auto)]
+
+mod alone;
+mod answers;
+mod laws;
+mod refusals;
+mod report;
+mod status;
+mod top;
+mod words;
+
+pub use laws::one_answer;
+pub use status::{Ended, Status};
+pub use top::cross_quiet;
+pub use words::Action;

@@ -1,0 +1,22 @@
+//! Tables of runs: of the top call over streams in memory, of the streams, of the engine and of the driver, and of the
+//! claims of iterations.
+//!
+//! Here are tests alone, over crates that are proved without them. Each job is read from a text.
+#![tactic(auto)]
+
+#[cfg(test)]
+mod claims;
+#[cfg(test)]
+mod engine;
+#[cfg(test)]
+mod jobs;
+#[cfg(test)]
+mod nests;
+#[cfg(test)]
+mod relay;
+#[cfg(test)]
+mod streams;
+#[cfg(test)]
+mod top;
+#[cfg(test)]
+mod turns;
