@@ -16,10 +16,10 @@ use Rattle.domore_core.proofs.Need.{waits_few}
 -- there are no fewer iterations among more events
 fewer : (passed others : List Passed) → length (iterations_among passed) ≤ length (iterations_among (passed ++ others))
 fewer [] others = omega arith
-fewer (Computes purpose ∷ passed) others = fewer passed others
-fewer (Drains purpose ∷ passed) others = fewer passed others
+fewer (Computes purpose scalars ∷ passed) others = fewer passed others
+fewer (Drains purpose scalars ∷ passed) others = fewer passed others
 fewer (Iterates body scalars ∷ passed) others = let l : length (iterations_among passed) ≤ length (iterations_among (passed ++ others)) = fewer passed others in omega arith
-fewer (Closes ∷ passed) others = fewer passed others
+fewer (Closes scalars ∷ passed) others = fewer passed others
 fewer (Ends ∷ passed) others = fewer passed others
 
 module _ {B C P : Type 0} (m : Setup B C P) (nest : Nest) (tree : B → Cut) where
@@ -34,11 +34,11 @@ module _ {B C P : Type 0} (m : Setup B C P) (nest : Nest) (tree : B → Cut) whe
   some_left : (cursor : C) (left : Course) (o : Option (List ℤ)) → Follows nest tree m.event cursor left → IsCarried (m.event cursor) o → 1 ≤ length (events_left nest left o)
   some_left cursor course.End o is carried = omega arith
   some_left cursor (course.Failed cause line) o is carried = elim is [ ]
-  some_left cursor (course.Scalar purpose rest) o is carried = omega arith
-  some_left cursor (course.Drain purpose rest) None (trap, after, is, follows) carried = absurd (true≢false (sym (subst (λ x. IsCarried x None) is carried)))
-  some_left cursor (course.Drain purpose rest) (Some words) is carried = omega arith
+  some_left cursor (course.Scalar purpose scalars rest) o is carried = omega arith
+  some_left cursor (course.Drain purpose scalars rest) None (trap, after, is, follows) carried = absurd (true≢false (sym (subst (λ x. IsCarried x None) is carried)))
+  some_left cursor (course.Drain purpose scalars rest) (Some words) is carried = omega arith
   some_left cursor (course.Iterate body scalars rest) o is carried = omega arith
-  some_left cursor (course.Close rest) o is carried = omega arith
+  some_left cursor (course.Close scalars rest) o is carried = omega arith
 
   all_length : (passed : List Passed) (next : ℕ) (cursor : C) (behind : Behind nest tree m.event passed next cursor) → length passed + length (events_left nest behind.left (reached nest next)) ≡ length (events nest)
   all_length passed next cursor behind = sym (length-append passed (events_left nest behind.left (reached nest next))) ∙ ap length behind.all_events
@@ -58,14 +58,14 @@ module _ {B C P : Type 0} (m : Setup B C P) (nest : Nest) (tree : B → Cut) whe
 
     event_steady : (passed : List Passed) (next : ℕ) (event : Event B C) → length (events nest) ≤ length passed + suc most → AtEvent nest tree m.event passed next event → event_weight m nest (ahead m nest most) next event ≡ event_weight m nest (ahead m nest (suc most)) next event
     event_steady passed next End enough at = refl
-    event_steady passed next (Scalar purpose trap rest) enough at = ap suc (onward_steady passed (Computes purpose) next trap rest enough at)
-    event_steady passed next (Drain purpose trap rest) enough at = go (reached nest next) refl
+    event_steady passed next (Scalar purpose trap rest) enough (scalars, at) = ap suc (onward_steady passed (Computes purpose scalars) next trap rest enough at)
+    event_steady passed next (Drain purpose trap rest) enough (scalars, at) = go (reached nest next) refl
       where
         go : (o : Option (List ℤ)) → reached nest next ≡ o → option_map_or (λ words. suc (behind_trap (trap words) (ahead m nest most (rest words) next))) o 0 ≡ option_map_or (λ words. suc (behind_trap (trap words) (ahead m nest (suc most) (rest words) next))) o 0
         go None is = refl
-        go (Some words) is = ap suc (onward_steady passed (Drains purpose) next (trap words) (rest words) enough (at words is))
+        go (Some words) is = ap suc (onward_steady passed (Drains purpose scalars) next (trap words) (rest words) enough (at words is))
     event_steady passed next (Iterate b rest) enough (i, here, same, behind) = ap (λ n. suc (iteration_weight m nest b (waits m next) + n)) (more (passed ++ Iterates i.0 i.1 ∷ []) (suc next) rest behind (let e : length (passed ++ Iterates i.0 i.1 ∷ []) ≡ length passed + 1 = one_longer passed (Iterates i.0 i.1) in omega arith))
-    event_steady passed next (Close rest) enough behind = ap suc (more (passed ++ Closes ∷ []) next rest behind (let e : length (passed ++ Closes ∷ []) ≡ length passed + 1 = one_longer passed Closes in omega arith))
+    event_steady passed next (Close rest) enough (scalars, behind) = ap suc (more (passed ++ Closes scalars ∷ []) next rest behind (let e : length (passed ++ Closes scalars ∷ []) ≡ length passed + 1 = one_longer passed (Closes scalars) in omega arith))
 
   -- with no event left there is no weight
   none_left : (passed : List Passed) (next : ℕ) (cursor : C) (event : Event B C) → m.event cursor ≡ event → Behind nest tree m.event passed next cursor → length (events nest) ≤ length passed + 0 → 0 ≡ event_weight m nest (ahead m nest 0) next event
@@ -117,20 +117,20 @@ module _ {B C P : Type 0} (m : Setup B C P) (nest : Nest) (tree : B → Cut) whe
 
       event_bounded : (passed : List Passed) (next : ℕ) (cursor : C) (event : Event B C) → m.event cursor ≡ event → Behind nest tree m.event passed next cursor → AtEvent nest tree m.event passed next event → EventCosts m nest (Costs m nest most cost) cost next event → event_weight m nest (ahead m nest most) next event + length passed + spent next ≤ all_spent
       event_bounded passed next cursor End is behind at costs = let a : length passed ≤ length (events nest) = (iterations_within passed next cursor behind).0 in let b : spent next ≤ spent (length (iterations_among (events nest))) = (iterations_within passed next cursor behind).1 in omega arith
-      event_bounded passed next cursor (Scalar purpose trap rest) is behind at costs = onward_bounded passed (Computes purpose) next trap rest (one_more passed next cursor behind (subst (λ x. IsCarried x (reached nest next)) (sym is) tt)) (iterations_within passed next cursor behind).1 at costs
-      event_bounded passed next cursor (Drain purpose trap rest) is behind at costs = go (reached nest next) refl
+      event_bounded passed next cursor (Scalar purpose trap rest) is behind (scalars, at) costs = onward_bounded passed (Computes purpose scalars) next trap rest (one_more passed next cursor behind (subst (λ x. IsCarried x (reached nest next)) (sym is) tt)) (iterations_within passed next cursor behind).1 at costs
+      event_bounded passed next cursor (Drain purpose trap rest) is behind (scalars, at) costs = go (reached nest next) refl
         where
           go : (o : Option (List ℤ)) → reached nest next ≡ o → option_map_or (λ words. suc (behind_trap (trap words) (ahead m nest most (rest words) next))) o 0 + length passed + spent next ≤ all_spent
           go None reach = let a : length passed ≤ length (events nest) = (iterations_within passed next cursor behind).0 in let b : spent next ≤ spent (length (iterations_among (events nest))) = (iterations_within passed next cursor behind).1 in omega arith
-          go (Some words) reach = onward_bounded passed (Drains purpose) next (trap words) (rest words) (one_more passed next cursor behind (subst (λ x. IsCarried x (reached nest next)) (sym is) (subst IsSome (sym reach) refl))) (iterations_within passed next cursor behind).1 (at words reach) (costs words reach)
+          go (Some words) reach = onward_bounded passed (Drains purpose scalars) next (trap words) (rest words) (one_more passed next cursor behind (subst (λ x. IsCarried x (reached nest next)) (sym is) (subst IsSome (sym reach) refl))) (iterations_within passed next cursor behind).1 (at words reach) (costs words reach)
       event_bounded passed next cursor (Iterate b rest) is behind (i, here, same, after) (fuel, costs) =
           let l : ahead m nest most rest (suc next) + length (passed ++ Iterates i.0 i.1 ∷ []) + (spent next + (cost next + m.width + 1)) ≤ all_spent = more (passed ++ Iterates i.0 i.1 ∷ []) (suc next) rest after costs in
           let e : length (passed ++ Iterates i.0 i.1 ∷ []) ≡ length passed + 1 = one_longer passed (Iterates i.0 i.1) in
           let w : length (waits m next) ≤ m.width = waits_few m.clashes m.width next in
           omega arith
-      event_bounded passed next cursor (Close rest) is behind after costs =
-          let l : ahead m nest most rest next + length (passed ++ Closes ∷ []) + spent next ≤ all_spent = more (passed ++ Closes ∷ []) next rest after costs in
-          let e : length (passed ++ Closes ∷ []) ≡ length passed + 1 = one_longer passed Closes in
+      event_bounded passed next cursor (Close rest) is behind (scalars, after) costs =
+          let l : ahead m nest most rest next + length (passed ++ Closes scalars ∷ []) + spent next ≤ all_spent = more (passed ++ Closes scalars ∷ []) next rest after costs in
+          let e : length (passed ++ Closes scalars ∷ []) ≡ length passed + 1 = one_longer passed (Closes scalars) in
           omega arith
 
     pub bounded : (most : ℕ) (passed : List Passed) (next : ℕ) (cursor : C) → Behind nest tree m.event passed next cursor → Costs m nest most cost cursor next → ahead m nest most cursor next + length passed + spent next ≤ all_spent

@@ -38,21 +38,21 @@ module _ (waits : ℕ → List Wait) where
 
   adds_up : (facts : Facts) (prior : List Listed) (passed : List Event) → facts.listed ≡ take 64 prior → AddsUp facts prior passed
   adds_up facts prior [] same = record { invocations = omega arith; drains = omega arith; waits_too = omega arith; crossing = omega arith; listed = same ∙ ap (take 64) (sym (append-nil prior)) }
-  adds_up facts prior (Computes Ordinary ∷ passed) same = let more = adds_up facts prior passed same in
-      let h : count_by is_header (Computes Ordinary ∷ passed) ≡ 0 + count_by is_header passed = headers (Computes Ordinary) passed 0 refl in
-      let d : count_by is_drain (Computes Ordinary ∷ passed) ≡ 0 + count_by is_drain passed = drain_count (Computes Ordinary) passed 0 refl in
+  adds_up facts prior (Computes Ordinary scalars ∷ passed) same = let more = adds_up facts prior passed same in
+      let h : count_by is_header (Computes Ordinary scalars ∷ passed) ≡ 0 + count_by is_header passed = headers (Computes Ordinary scalars) passed 0 refl in
+      let d : count_by is_drain (Computes Ordinary scalars ∷ passed) ≡ 0 + count_by is_drain passed = drain_count (Computes Ordinary scalars) passed 0 refl in
       record { invocations = omega (arith, more.invocations); drains = omega (arith, more.drains); waits_too = more.waits_too; crossing = more.crossing; listed = more.listed }
-  adds_up facts prior (Computes Header ∷ passed) same = let more = adds_up (computed Header facts) prior passed same in
-      let h : count_by is_header (Computes Header ∷ passed) ≡ 1 + count_by is_header passed = headers (Computes Header) passed 1 refl in
-      let d : count_by is_drain (Computes Header ∷ passed) ≡ 0 + count_by is_drain passed = drain_count (Computes Header) passed 0 refl in
+  adds_up facts prior (Computes Header scalars ∷ passed) same = let more = adds_up (computed Header facts) prior passed same in
+      let h : count_by is_header (Computes Header scalars ∷ passed) ≡ 1 + count_by is_header passed = headers (Computes Header scalars) passed 1 refl in
+      let d : count_by is_drain (Computes Header scalars ∷ passed) ≡ 0 + count_by is_drain passed = drain_count (Computes Header scalars) passed 0 refl in
       record { invocations = omega (arith, more.invocations); drains = omega (arith, more.drains); waits_too = more.waits_too; crossing = more.crossing; listed = more.listed }
-  adds_up facts prior (Drains Ordinary ∷ passed) same = let more = adds_up (drained facts) prior passed same in
-      let h : count_by is_header (Drains Ordinary ∷ passed) ≡ 0 + count_by is_header passed = headers (Drains Ordinary) passed 0 refl in
-      let d : count_by is_drain (Drains Ordinary ∷ passed) ≡ 1 + count_by is_drain passed = drain_count (Drains Ordinary) passed 1 refl in
+  adds_up facts prior (Drains Ordinary scalars ∷ passed) same = let more = adds_up (drained facts) prior passed same in
+      let h : count_by is_header (Drains Ordinary scalars ∷ passed) ≡ 0 + count_by is_header passed = headers (Drains Ordinary scalars) passed 0 refl in
+      let d : count_by is_drain (Drains Ordinary scalars ∷ passed) ≡ 1 + count_by is_drain passed = drain_count (Drains Ordinary scalars) passed 1 refl in
       record { invocations = omega (arith, more.invocations); drains = omega (arith, more.drains); waits_too = more.waits_too; crossing = more.crossing; listed = more.listed }
-  adds_up facts prior (Drains Header ∷ passed) same = let more = adds_up (computed Header (drained facts)) prior passed same in
-      let h : count_by is_header (Drains Header ∷ passed) ≡ 1 + count_by is_header passed = headers (Drains Header) passed 1 refl in
-      let d : count_by is_drain (Drains Header ∷ passed) ≡ 1 + count_by is_drain passed = drain_count (Drains Header) passed 1 refl in
+  adds_up facts prior (Drains Header scalars ∷ passed) same = let more = adds_up (computed Header (drained facts)) prior passed same in
+      let h : count_by is_header (Drains Header scalars ∷ passed) ≡ 1 + count_by is_header passed = headers (Drains Header scalars) passed 1 refl in
+      let d : count_by is_drain (Drains Header scalars ∷ passed) ≡ 1 + count_by is_drain passed = drain_count (Drains Header scalars) passed 1 refl in
       record { invocations = omega (arith, more.invocations); drains = omega (arith, more.drains); waits_too = more.waits_too; crossing = more.crossing; listed = more.listed }
   adds_up facts prior (Iterates body scalars ∷ passed) same =
       let new : List Listed = map (listed_at facts.iterations facts.first) (waits facts.iterations) in
@@ -63,9 +63,9 @@ module _ (waits : ℕ → List Wait) where
       let l : length (new ++ others) ≡ length (waits facts.iterations) + length others = length-append new others ∙ ap (λ x. x + length others) (length-map (waits facts.iterations) (listed_at facts.iterations facts.first)) in
       let c : count_by is_crossing (new ++ others) ≡ count_by is_crossing new + count_by is_crossing others = count_append new others in
       record { invocations = omega (arith, more.invocations); drains = omega (arith, more.drains); waits_too = omega (arith, more.waits_too, l); crossing = omega (arith, more.crossing, c); listed = more.listed ∙ ap (take 64) (append_assoc prior new others) }
-  adds_up facts prior (Closes ∷ passed) same = let more = adds_up facts prior passed same in
-      let h : count_by is_header (Closes ∷ passed) ≡ 0 + count_by is_header passed = headers Closes passed 0 refl in
-      let d : count_by is_drain (Closes ∷ passed) ≡ 0 + count_by is_drain passed = drain_count Closes passed 0 refl in
+  adds_up facts prior (Closes scalars ∷ passed) same = let more = adds_up facts prior passed same in
+      let h : count_by is_header (Closes scalars ∷ passed) ≡ 0 + count_by is_header passed = headers (Closes scalars) passed 0 refl in
+      let d : count_by is_drain (Closes scalars ∷ passed) ≡ 0 + count_by is_drain passed = drain_count (Closes scalars) passed 0 refl in
       record { invocations = omega (arith, more.invocations); drains = omega (arith, more.drains); waits_too = more.waits_too; crossing = more.crossing; listed = more.listed }
   adds_up facts prior (Ends ∷ passed) same = let more = adds_up facts prior passed same in
       let h : count_by is_header (Ends ∷ passed) ≡ 0 + count_by is_header passed = headers Ends passed 0 refl in

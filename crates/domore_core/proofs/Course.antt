@@ -30,10 +30,10 @@ module _ (waits : ℕ → List Wait) where
 
   pub counts_iterations : (facts : Facts) (passed : List Passed) → (facts_from waits facts passed).iterations ≡ facts.iterations + length (iterations_among passed)
   counts_iterations facts [] = omega arith
-  counts_iterations facts (Computes purpose ∷ passed) = let more : (facts_from waits (computed purpose facts) passed).iterations ≡ (computed purpose facts).iterations + length (iterations_among passed) = counts_iterations (computed purpose facts) passed in let same : (computed purpose facts).iterations ≡ facts.iterations = computed_iterations purpose facts in omega arith
-  counts_iterations facts (Drains purpose ∷ passed) = let more : (facts_from waits (computed purpose (drained facts)) passed).iterations ≡ (computed purpose (drained facts)).iterations + length (iterations_among passed) = counts_iterations (computed purpose (drained facts)) passed in let same : (computed purpose (drained facts)).iterations ≡ facts.iterations = computed_iterations purpose (drained facts) in omega arith
+  counts_iterations facts (Computes purpose scalars ∷ passed) = let more : (facts_from waits (computed purpose facts) passed).iterations ≡ (computed purpose facts).iterations + length (iterations_among passed) = counts_iterations (computed purpose facts) passed in let same : (computed purpose facts).iterations ≡ facts.iterations = computed_iterations purpose facts in omega arith
+  counts_iterations facts (Drains purpose scalars ∷ passed) = let more : (facts_from waits (computed purpose (drained facts)) passed).iterations ≡ (computed purpose (drained facts)).iterations + length (iterations_among passed) = counts_iterations (computed purpose (drained facts)) passed in let same : (computed purpose (drained facts)).iterations ≡ facts.iterations = computed_iterations purpose (drained facts) in omega arith
   counts_iterations facts (Iterates body scalars ∷ passed) = let more : (facts_from waits (iterated (waits facts.iterations) facts) passed).iterations ≡ suc facts.iterations + length (iterations_among passed) = counts_iterations (iterated (waits facts.iterations) facts) passed in omega arith
-  counts_iterations facts (Closes ∷ passed) = counts_iterations facts passed
+  counts_iterations facts (Closes scalars ∷ passed) = counts_iterations facts passed
   counts_iterations facts (Ends ∷ passed) = counts_iterations facts passed
 
 module _ {B C P : Type 0} (m : Setup B C P) (nest : Nest) (tree : B → Cut) (start : C) (setup : IsSetupFor m nest tree start) (s : State B C P) (trace : List Access) (tickets : AllTickets m s) (guards : Guarded m s trace) (words : WordsKept m.system.fixed nest.opening trace s.words) (parts : AllParts m nest tree s trace) (i : CourseKept m nest tree s) where
@@ -127,13 +127,14 @@ module _ {B C P : Type 0} (m : Setup B C P) (nest : Nest) (tree : B → Cut) (st
 
   -- each row keeps the course
   pub course_row : (u : ℕ) (move : Move B C P) → Guard m s u move → CourseKept m nest tree (state_after m s u move)
-  course_row u (DoScalar purpose trap rest) (free, is) = onward u (Computes purpose) purpose s.facts trap rest free (i.going free.untrapped) (event_is (Scalar purpose trap rest) (i.going free.untrapped) is) refl
-  course_row u (DoClose rest) (free, is) = let k = onward u Closes Ordinary s.facts None rest free (i.going free.untrapped) (event_is (Close rest) (i.going free.untrapped) is) refl in k
+  course_row u (DoScalar purpose trap rest) (free, is) = let at = event_is (Scalar purpose trap rest) (i.going free.untrapped) is in onward u (Computes purpose at.0) purpose s.facts trap rest free (i.going free.untrapped) at.1 refl
+  course_row u (DoClose rest) (free, is) = let at = event_is (Close rest) (i.going free.untrapped) is in let k = onward u (Closes at.0) Ordinary s.facts None rest free (i.going free.untrapped) at.1 refl in k
   course_row u (DoDrain purpose trap rest) (traps, rests, free, is, trap_is, rest_is, all) = let going = i.going free.untrapped in
-      onward u (Drains purpose) purpose (drained s.facts) trap rest free going
-      (subst (λ x. Onward nest tree m.event going.passed s.next (Drains purpose) x rest) trap_is
-      (subst (λ x. Onward nest tree m.event going.passed s.next (Drains purpose) (traps s.words) x) rest_is
-      (event_is (Drain purpose traps rests) going is s.words (words_are m nest tree start setup s trace guards words parts i.known (λ k lt. all_finished_at m.width s.next k s.seats all lt)))))
+      let at = event_is (Drain purpose traps rests) going is in
+      onward u (Drains purpose at.0) purpose (drained s.facts) trap rest free going
+      (subst (λ x. Onward nest tree m.event going.passed s.next (Drains purpose at.0) x rest) trap_is
+      (subst (λ x. Onward nest tree m.event going.passed s.next (Drains purpose at.0) (traps s.words) x) rest_is
+      (at.1 s.words (words_are m nest tree start setup s trace guards words parts i.known (λ k lt. all_finished_at m.width s.next k s.seats all lt)))))
       refl
   course_row u (DoDispatch b rest) (free, is, room) = let d = dispatched b rest free.untrapped free.going (i.going free.untrapped) (event_is (Iterate b rest) (i.going free.untrapped) is) in record { going = λ none. let g = d.going none in record { passed = g.passed; behind = g.behind; counted = g.counted }; known = d.known; early = d.early; late = d.late; over = d.over }
   course_row u DoHalt (actor, on, at_end) = record {

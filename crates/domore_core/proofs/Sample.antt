@@ -92,7 +92,7 @@ abbrev nest : Nest
 nest = record {
   sizes = 2 ∷ [];
   turn = turn_at;
-  course = course.Scalar Header (course.Iterate 0 [] (course.Iterate 1 [] (course.Close (course.Drain Ordinary (λ words. course.End)))));
+  course = course.Scalar Header [] (course.Iterate 0 [] (course.Iterate 1 [] (course.Close [] (course.Drain Ordinary [] (λ words. course.End)))));
   opening = pos 0 ∷ pos 0 ∷ [];
 }
 
@@ -163,7 +163,7 @@ abbrev mirrored : ℕ → ℕ → Bool
 mirrored j k = (j % 4 == k % 4) || (j % 4 + k % 4 == 3)
 
 abbrev eight : List Passed
-eight = Computes Ordinary ∷ Computes Ordinary ∷ Computes Header ∷ Iterates 0 [] ∷ Iterates 0 [] ∷ Iterates 0 [] ∷ Iterates 0 [] ∷ Closes ∷ Computes Ordinary ∷ Computes Header ∷ Iterates 0 [] ∷ Iterates 0 [] ∷ Iterates 0 [] ∷ Iterates 0 [] ∷ Closes ∷ Computes Ordinary ∷ Ends ∷ []
+eight = Computes Ordinary [] ∷ Computes Ordinary [] ∷ Computes Header [] ∷ Iterates 0 [] ∷ Iterates 0 [] ∷ Iterates 0 [] ∷ Iterates 0 [] ∷ Closes [] ∷ Computes Ordinary [] ∷ Computes Header [] ∷ Iterates 0 [] ∷ Iterates 0 [] ∷ Iterates 0 [] ∷ Iterates 0 [] ∷ Closes [] ∷ Computes Ordinary [] ∷ Ends ∷ []
 
 eight_facts : facts_from (waits_of mirrored 2) no_facts eight ≡ record {
   invocations = 2;

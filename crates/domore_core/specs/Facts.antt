@@ -49,10 +49,10 @@ iterated waits facts = let new = map (listed_at facts.iterations facts.first) wa
 
 -- what an event adds that is carried out without a trap
 abbrev pub counted : (ℕ → List Wait) → Facts → Event → Facts
-counted waits facts (Computes purpose) = computed purpose facts
-counted waits facts (Drains purpose) = computed purpose (drained facts)
+counted waits facts (Computes purpose scalars) = computed purpose facts
+counted waits facts (Drains purpose scalars) = computed purpose (drained facts)
 counted waits facts (Iterates body scalars) = iterated (waits facts.iterations) facts
-counted waits facts Closes = facts
+counted waits facts (Closes scalars) = facts
 counted waits facts Ends = facts
 
 -- the facts of a list of events, each carried out without a trap
@@ -70,18 +70,13 @@ begins Ordinary = false
 begins Header = true
 
 abbrev pub is_header : Event → Bool
-is_header (Computes purpose) = begins purpose
-is_header (Drains purpose) = begins purpose
-is_header (Iterates body scalars) = false
-is_header Closes = false
-is_header Ends = false
+is_header (Computes purpose scalars) = begins purpose
+is_header (Drains purpose scalars) = begins purpose
+is_header other = false
 
 abbrev pub is_drain : Event → Bool
-is_drain (Drains purpose) = true
-is_drain (Computes purpose) = false
-is_drain (Iterates body scalars) = false
-is_drain Closes = false
-is_drain Ends = false
+is_drain (Drains purpose scalars) = true
+is_drain other = false
 
 -- the first iteration of the present invocation, behind an event before iteration k
 abbrev pub first_behind : Purpose → ℕ → ℕ → ℕ
@@ -91,10 +86,10 @@ first_behind Header k first = k
 -- all waits of the iterations among events, in order, from iteration k on
 abbrev pub listed_from : (ℕ → List Wait) → ℕ → ℕ → List Event → List Listed
 listed_from waits k first [] = []
-listed_from waits k first (Computes purpose ∷ others) = listed_from waits k (first_behind purpose k first) others
-listed_from waits k first (Drains purpose ∷ others) = listed_from waits k (first_behind purpose k first) others
+listed_from waits k first (Computes purpose scalars ∷ others) = listed_from waits k (first_behind purpose k first) others
+listed_from waits k first (Drains purpose scalars ∷ others) = listed_from waits k (first_behind purpose k first) others
 listed_from waits k first (Iterates body scalars ∷ others) = map (listed_at k first) (waits k) ++ listed_from waits (suc k) first others
-listed_from waits k first (Closes ∷ others) = listed_from waits k first others
+listed_from waits k first (Closes scalars ∷ others) = listed_from waits k first others
 listed_from waits k first (Ends ∷ others) = listed_from waits k first others
 
 -- what facts are of a whole list of events

@@ -45,13 +45,13 @@ module _ (setting : Setting) (scalars : List ℤ) where
 
   -- a loop with numbers for bounds computes its header without the words
   header-known : {A : Type 0} (purpose : Purpose) (line : Line) (t : Turns) (low high : Expr) (compute : List ℤ → Result A Cause) (go : A → Course) (result : A) → low ≡ expr.Number (pos t.low) → high ≡ expr.Number (pos t.high) → compute setting.words ≡ Ok result
-      → event setting purpose line (low ∷ high ∷ []) compute go ≡ course.Scalar purpose (go result)
+      → event setting purpose scalars line (low ∷ high ∷ []) compute go ≡ course.Scalar purpose scalars (go result)
   header-known purpose line t low high compute go result low_is high_is known =
       let plain_low = ap (names_written setting.arrays) low_is ∙ names_written-number setting.arrays (pos t.low) in
       let plain_high = ap (names_written setting.arrays) high_is ∙ names_written-number setting.arrays (pos t.high) in
-      ap (λ b. if b || (names_written setting.arrays high || false) then course.Drain purpose (λ words. computed line (compute words) go) else course.Scalar purpose (computed line (compute setting.words) go)) plain_low
-      ∙ ap (λ b. if false || (b || false) then course.Drain purpose (λ words. computed line (compute words) go) else course.Scalar purpose (computed line (compute setting.words) go)) plain_high
-      ∙ ap (λ r. course.Scalar purpose (computed line r go)) known
+      ap (λ b. if b || (names_written setting.arrays high || false) then course.Drain purpose scalars (λ words. computed line (compute words) go) else course.Scalar purpose scalars (computed line (compute setting.words) go)) plain_low
+      ∙ ap (λ b. if false || (b || false) then course.Drain purpose scalars (λ words. computed line (compute words) go) else course.Scalar purpose scalars (computed line (compute setting.words) go)) plain_high
+      ∙ ap (λ r. course.Scalar purpose scalars (computed line r go)) known
 
 -- the course, event by event
 module _ (setting : Setting) (first : First) (kept : IsKept first) where
@@ -60,19 +60,19 @@ module _ (setting : Setting) (first : First) (kept : IsKept first) where
 
   -- an invocation with these scalars before it
   pub invocation-is : (scalars : List ℤ) (go : List ℤ → Course) (body : ℕ) → (item_of setting (stmt.Loop (invocation_of first))).events body scalars go
-      ≡ course.Scalar Header (iterations (count_of first.inner) 0 body (λ k. with_scalar scalars first.inner.name (variable (pos first.inner.low) 1 k)) (go scalars))
+      ≡ course.Scalar Header scalars (iterations (count_of first.inner) 0 body (λ k. with_scalar scalars first.inner.name (variable (pos first.inner.low) 1 k)) scalars (go scalars))
   invocation-is scalars go body =
       ap (λ (i : Item). i.events body scalars go) (item-loop setting (invocation_of first))
       ∙ ap (λ (l : Looped). l.invocation.events body scalars go) (looped-is setting (invocation_of first))
       ∙ header-known setting scalars Header first.inner.line first.inner _ _ (bounds setting.arrays (layer first.inner (map (λ s. (s, item_of setting s)) (write_of first))) scalars)
-      (λ b. iterations b.1 0 body (λ k. with_scalar scalars first.inner.name (variable b.0 1 k)) (go scalars)) (pos first.inner.low, count_of first.inner) refl refl
+      (λ b. iterations b.1 0 body (λ k. with_scalar scalars first.inner.name (variable b.0 1 k)) scalars (go scalars)) (pos first.inner.low, count_of first.inner) refl refl
       (bounds-known setting scalars first.inner (layer first.inner (map (λ s. (s, item_of setting s)) (write_of first))) refl refl refl refl kept.inner_high setting.words)
 
   abbrev pub items : List ℤ → (List ℤ → Course) → Course
   items scalars go = (item_of setting (stmt.Loop (invocation_of first))).events 0 scalars (λ after. go after)
 
   pub region-is : (scalars : List ℤ) (go : List ℤ → Course) → (region_of setting (region first)).events 0 scalars go
-      ≡ course.Scalar Ordinary (region_turns (count_of first.outer) 0 (variable (pos first.outer.low) 1) first.outer.name items scalars go)
+      ≡ course.Scalar Ordinary scalars (region_turns (count_of first.outer) 0 (variable (pos first.outer.low) 1) first.outer.name items scalars go)
   region-is scalars go =
       ap (λ (l : Looped). l.region.events 0 scalars go) (looped-is setting (region first))
       ∙ header-known setting scalars Ordinary first.outer.line first.outer _ _ (bounds setting.arrays (layer first.outer (map (λ s. (s, item_of setting s)) (stmt.Loop (invocation_of first) ∷ []))) scalars)
@@ -98,7 +98,7 @@ module _ (program : Program) (form : IsFirstForm program) (words : List ℤ) whe
   Over scalars = (v : ℤ) → with_scalar scalars first.outer.name v ≡ with_scalar opened first.outer.name v
 
   follow_iterations : (n t k : ℕ) (scalars : List ℤ) (rest : Course) → k + n ≡ count_of first.inner → scalars ≡ with_scalar opened first.outer.name (variable (pos first.outer.low) 1 t)
-      → Follow (position.Turn (suc t)) rest → Follow (position.Inside t k) (iterations n k 0 (λ j. with_scalar scalars first.inner.name (variable (pos first.inner.low) 1 j)) rest)
+      → Follow (position.Turn (suc t)) rest → Follow (position.Inside t k) (iterations n k 0 (λ j. with_scalar scalars first.inner.name (variable (pos first.inner.low) 1 j)) scalars rest)
   unfolding cut_turn
   follow_iterations zero t k scalars rest count are follows =
       (position.Turn (suc t), cond-false (nat_lt k (count_of first.inner)) _ _ (le-ltb k (count_of first.inner) (omega arith)), follows)
@@ -110,12 +110,12 @@ module _ (program : Program) (form : IsFirstForm program) (words : List ℤ) whe
     follow_iterations n t (suc k) scalars rest (omega arith) are follows,
   )
 
-  no_trap-iterations : (n k : ℕ) (scalars_at : ℕ → List ℤ) (rest : Course) → trap_of (iterations n k 0 scalars_at rest) ≡ None
-  no_trap-iterations zero k scalars_at rest = refl
-  no_trap-iterations (suc n) k scalars_at rest = refl
+  no_trap-iterations : (n k : ℕ) (scalars_at : ℕ → List ℤ) (scalars : List ℤ) (rest : Course) → trap_of (iterations n k 0 scalars_at scalars rest) ≡ None
+  no_trap-iterations zero k scalars_at scalars rest = refl
+  no_trap-iterations (suc n) k scalars_at scalars rest = refl
 
   follow_turns : (n t : ℕ) (scalars : List ℤ) (items : List ℤ → (List ℤ → Course) → Course)
-      → ((s : List ℤ) (go : List ℤ → Course) → items s go ≡ course.Scalar Header (iterations (count_of first.inner) 0 0 (λ k. with_scalar s first.inner.name (variable (pos first.inner.low) 1 k)) (go s)))
+      → ((s : List ℤ) (go : List ℤ → Course) → items s go ≡ course.Scalar Header s (iterations (count_of first.inner) 0 0 (λ k. with_scalar s first.inner.name (variable (pos first.inner.low) 1 k)) s (go s)))
       → t + n ≡ count_of first.outer → Over scalars → Follow (position.Turn t) (region_turns n t (variable (pos first.outer.low) 1) first.outer.name items scalars (λ after. course.End))
   follow_turns zero t scalars items are count over =
       (position.End, ap (λ next. Scalar Ordinary None next) (cond-false (nat_lt t (count_of first.outer)) _ _ (le-ltb t (count_of first.outer) (omega arith))), λ none. refl)
@@ -127,7 +127,7 @@ module _ (program : Program) (form : IsFirstForm program) (words : List ℤ) whe
         ap (λ next. Scalar Ordinary None next) (cond-true (nat_lt t (count_of first.outer)) _ _ (lt-ltb t (count_of first.outer) (omega arith))) ∙ ap (λ c. Scalar Ordinary (trap_of c) (position.Invocation t)) (sym is),
         λ none. subst (Follow (position.Invocation t)) (sym is) (
           position.Inside t 0,
-          ap (λ trap. Scalar Header trap (position.Inside t 0)) (sym (no_trap-iterations (count_of first.inner) 0 _ (rest inside))),
+          ap (λ trap. Scalar Header trap (position.Inside t 0)) (sym (no_trap-iterations (count_of first.inner) 0 _ inside (rest inside))),
           λ no_trap. follow_iterations (count_of first.inner) t 0 inside (rest inside) (omega arith) (over _)
               (follow_turns n (suc t) inside items are (omega arith) (λ v. set-set scalars first.outer.name (variable (pos first.outer.low) 1 t) v ∙ over v)),
         ),
@@ -137,7 +137,7 @@ module _ (program : Program) (form : IsFirstForm program) (words : List ℤ) whe
   no_trap-turns zero t scalars items = refl
   no_trap-turns (suc n) t scalars items = refl
 
-  course-is : course_of program words ≡ course.Scalar Ordinary (region_turns (count_of first.outer) 0 (variable (pos first.outer.low) 1) first.outer.name (items (setting_of program words) first (first-kept program)) opened (λ after. course.End))
+  course-is : course_of program words ≡ course.Scalar Ordinary opened (region_turns (count_of first.outer) 0 (variable (pos first.outer.low) 1) first.outer.name (items (setting_of program words) first (first-kept program)) opened (λ after. course.End))
   course-is =
       let setting = setting_of program words in
       ap (λ regions. (in_order (map (region_of setting) regions)).events 0 opened (λ after. course.End)) ((form_with program form).2)

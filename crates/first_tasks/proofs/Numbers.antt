@@ -49,23 +49,23 @@ module _ (program : Program) (form : IsFirstForm program) (words : List ℤ) whe
   reach_turn zero le =
       let at = tells 0 position.Region (Scalar Ordinary None (position.Turn 0)) (record { passed = []; behind = begins Iteration Position nest (cut_turn program) (event_at first) position.Region (follows program form words) }) refl in
       let same : 0 ≡ 0 * count_of first.inner = omega arith in
-      subst (λ n. IsReached n (position.Turn 0)) same (record { passed = _; behind = at })
+      subst (λ n. IsReached n (position.Turn 0)) same (record { passed = _; behind = at.1 })
   reach_turn (suc t) le =
       let before = reach_turn t (omega arith) in
       let n = t * count_of first.inner in
       let header = tells n (position.Turn t) (Scalar Ordinary None (position.Invocation t)) before (more_turns t (omega arith)) in
-      let begun = tells n (position.Invocation t) (Scalar Header None (position.Inside t 0)) (record { passed = _; behind = header }) refl in
-      let last = reach_inside t (count_of first.inner) (record { passed = _; behind = begun }) (omega arith) in
+      let begun = tells n (position.Invocation t) (Scalar Header None (position.Inside t 0)) (record { passed = _; behind = header.1 }) refl in
+      let last = reach_inside t (count_of first.inner) (record { passed = _; behind = begun.1 }) (omega arith) in
       let over = tells (n + count_of first.inner) (position.Inside t (count_of first.inner)) (Close (position.Turn (suc t))) last (cond-false (nat_lt (count_of first.inner) (count_of first.inner)) _ _ (le-ltb (count_of first.inner) (count_of first.inner) (omega arith))) in
       let same : n + count_of first.inner ≡ suc t * count_of first.inner = omega arith in
-      subst (λ k. IsReached k (position.Turn (suc t))) same (record { passed = _; behind = over })
+      subst (λ k. IsReached k (position.Turn (suc t))) same (record { passed = _; behind = over.1 })
 
   begin_turn : (t : ℕ) → t < count_of first.outer → IsReached (t * count_of first.inner) (position.Inside t 0)
   begin_turn t more =
       let n = t * count_of first.inner in
       let header = tells n (position.Turn t) (Scalar Ordinary None (position.Invocation t)) (reach_turn t (omega arith)) (more_turns t more) in
-      let begun = tells n (position.Invocation t) (Scalar Header None (position.Inside t 0)) (record { passed = _; behind = header }) refl in
-      record { passed = _; behind = begun }
+      let begun = tells n (position.Invocation t) (Scalar Header None (position.Inside t 0)) (record { passed = _; behind = header.1 }) refl in
+      record { passed = _; behind = begun.1 }
 
   -- iteration k of turn t
   pub record IsIteration (number : ℕ) (iteration : Iteration) : Type 0 where
@@ -100,5 +100,5 @@ module _ (program : Program) (form : IsFirstForm program) (words : List ℤ) whe
       let count = count_of first.outer in
       let next = count * count_of first.inner in
       let left = tells next (position.Turn count) (Scalar Ordinary None position.End) (reach_turn count (omega arith)) (ap (λ p. Scalar Ordinary None p) (cond-false (nat_lt count count) _ _ (le-ltb count count (omega arith)))) in
-      let over = tells next position.End End (record { passed = _; behind = left }) refl in
+      let over = tells next position.End End (record { passed = _; behind = left.1 }) refl in
       over.1 number behind

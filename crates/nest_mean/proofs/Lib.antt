@@ -3,9 +3,11 @@ pub mod Names
 pub mod Parts
 pub mod Statements
 pub mod Kept
+pub mod Locals
 pub mod Rounds
 pub mod Walk
 pub mod Sameness
 pub mod Whole
+pub mod Bound
 pub mod Numbers
 pub mod Added

@@ -2,20 +2,10 @@
 use Rattle.std.proofs.Common.{◌≡◌, ℕ, zero, suc, ◌<◌, ℤ, pos, Bool, true, false, ◌||◌, ◌==◌, List, [], ◌∷◌, ◌++◌, map, length, get_or, refl, sym, ap, ◌∙◌, arith, eq-eqb}
 use Rattle.std.proofs.lemmas.List.{get_or-set_other, length-set}
 use Rattle.std.proofs.lemmas.List.Folds.{list_any-append}
-use Rattle.nest_syntax.specs.declared.names.Line.{Line}
-use Rattle.nest_syntax.specs.declared.operators.Op.{Op}
-use Rattle.nest_syntax.specs.declared.tree.Expr.{Expr}
-use Rattle.nest_syntax.specs.declared.tree.Arm.{Arm}
-use Rattle.nest_syntax.specs.declared.tree.Loop.{Loop}
-use Rattle.nest_syntax.specs.declared.tree.Stmt.{Stmt}
-use Rattle.nest_syntax.specs.declared.tree.Stmt.TheOpen.{Stmt-F}
-use Rattle.nest_syntax.specs.declared.tree.Stmt.TheFolds.{fold-roll-Stmt, fold_out-Arm, fold_out-Loop}
-use Rattle.nest_syntax.specs.declared.tree.Stmt.TheVariants as stmt
-use Rattle.nest_syntax.specs.declared.tree.Stmt.TheVariants.{rolls-Declare, rolls-Assign, rolls-Write, rolls-If, rolls-Loop}
 use Rattle.nest_syntax.specs.Value.{with_scalar}
 use Rattle.std.specs.List.{concat}
 use Rattle.nest_syntax.specs.Among.{is_among}
-use Rattle.nest_mean.specs.NamesChanged.{changed, changed_node, changed_arm_node, changed_loop_node, changed_in_arm, changed_in_loop, KeepsOthers}
+use Rattle.nest_mean.specs.NamesChanged.{KeepsOthers}
 
 or_false_left : (a b : Bool) → (a || b) ≡ false → a ≡ false
 or_false_left false b e = refl
@@ -59,24 +49,3 @@ keeps_set names scalars name value there = record {
       let wrong : true ≡ false = sym there ∙ ap (is_among names) (sym e) ∙ apart in
       cc);
 }
-
-pub changed-declare : (line : Line) (name : ℕ) (e : Expr) → changed (stmt.Declare line name e) ≡ name ∷ []
-changed-declare line name e = ap changed (sym (rolls-Declare line name e)) ∙ fold-roll-Stmt (List ℕ) (List ℕ) (List ℕ) changed_node changed_arm_node changed_loop_node (Stmt-F.Declare line name e)
-
-pub changed-assign : (line : Line) (name : ℕ) (op : Op) (e : Expr) → changed (stmt.Assign line name op e) ≡ name ∷ []
-changed-assign line name op e = ap changed (sym (rolls-Assign line name op e)) ∙ fold-roll-Stmt (List ℕ) (List ℕ) (List ℕ) changed_node changed_arm_node changed_loop_node (Stmt-F.Assign line name op e)
-
-pub changed-write : (line : Line) (name : ℕ) (place : Expr) (op : Op) (e : Expr) → changed (stmt.Write line name place op e) ≡ []
-changed-write line name place op e = ap changed (sym (rolls-Write line name place op e)) ∙ fold-roll-Stmt (List ℕ) (List ℕ) (List ℕ) changed_node changed_arm_node changed_loop_node (Stmt-F.Write line name place op e)
-
-pub changed-if : (arms : List Arm) (other : List Stmt) → changed (stmt.If arms other) ≡ concat (map changed_in_arm arms) ++ concat (map changed other)
-changed-if arms other = ap changed (sym (rolls-If arms other)) ∙ fold-roll-Stmt (List ℕ) (List ℕ) (List ℕ) changed_node changed_arm_node changed_loop_node (Stmt-F.If arms other)
-
-pub changed-loop : (l : Loop) → changed (stmt.Loop l) ≡ changed_in_loop l
-changed-loop l = ap changed (sym (rolls-Loop l)) ∙ fold-roll-Stmt (List ℕ) (List ℕ) (List ℕ) changed_node changed_arm_node changed_loop_node (Stmt-F.Loop l)
-
-pub changed_in_arm-is : (arm : Arm) → changed_in_arm arm ≡ concat (map changed arm.body)
-changed_in_arm-is arm = fold_out-Arm (List ℕ) (List ℕ) (List ℕ) changed_node changed_arm_node changed_loop_node arm
-
-pub changed_in_loop-is : (l : Loop) → changed_in_loop l ≡ l.name ∷ concat (map changed l.body)
-changed_in_loop-is l = fold_out-Loop (List ℕ) (List ℕ) (List ℕ) changed_node changed_arm_node changed_loop_node l

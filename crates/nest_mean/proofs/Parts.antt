@@ -1,5 +1,5 @@
 -- How the parts of a body run, put together.
-use Rattle.std.proofs.Common.{◌≡◌, ℕ, suc, ◌+◌, ◌-◌, ◌<◌, ◌≤◌, ℤ, false, Option, Some, None, Result, Ok, Err, List, [], ◌∷◌, map, length, drop, get_or, refl, sym, ap, ◌∙◌, subst, arith, drop-cons, add-one}
+use Rattle.std.proofs.Common.{◌≡◌, ℕ, suc, ◌+◌, ◌-◌, ◌<◌, ◌≤◌, ℤ, true, false, Option, Some, None, Result, Ok, Err, List, [], ◌∷◌, map, length, drop, get_or, refl, sym, ap, ◌∙◌, subst, arith, drop-cons, add-one}
 use Rattle.std.specs.Option.{option_map, option_map_or, option_and_then}
 use Rattle.std.proofs.lemmas.List.{drop_all}
 use Rattle.nest_syntax.specs.declared.names.Line.{Line}
@@ -15,15 +15,15 @@ use Rattle.nest_syntax.specs.Words.{apply, operation_of, assigned}
 use Rattle.nest_syntax.specs.Arrays.{Array, array_of, sizes_of, place_of, located, word_number, word_at, with_word}
 use Rattle.nest_syntax.specs.Value.{value, scalar_at, with_scalar}
 use Rattle.nest_syntax.specs.Turn.{Turn, Store, Op as Op', Go, Effect, reckoning, inside, assigning, writing, sequence, repeat, effect, effect_node}
-use Rattle.nest_syntax.specs.Reads.{Stopped, on_words}
-use Rattle.nest_syntax.proofs.Equations.{effect-declare}
-use Rattle.nest_syntax.proofs.Reckoned.{answered, done_with-answered, reckoned}
+use Rattle.nest_syntax.specs.Reads.{Stopped, on_words, answered}
+use Rattle.nest_syntax.proofs.Equations.{effect-declare, given-declare}
+use Rattle.nest_syntax.proofs.Reckoned.{done_with-answered, reckoned}
 use Rattle.word_store.specs.Memory.{Memory, loaded, stored}
 use Rattle.nest_mean.specs.declared.bodies.TurnTrap.{TurnTrap}
 use Rattle.nest_syntax.specs.Among.{is_among}
 use Rattle.nest_mean.specs.NamesChanged.{changed, names_changed, KeepsOthers}
 use Rattle.nest_mean.specs.TurnParts.{went_on_with, at_line, Runs}
-use Rattle.nest_mean.proofs.Names.{among_here, among_behind, among_part, keeps_same, keeps_then, keeps_more, keeps_set, changed-declare}
+use Rattle.nest_mean.proofs.Names.{among_here, among_behind, among_part, keeps_same, keeps_then, keeps_more, keeps_set}
 
 module _ (arrays : List Array) where
   -- what an expression does goes on with its value
@@ -87,7 +87,7 @@ module _ (arrays : List Array) where
   pub runs_declare : (line : Line) (name : ℕ) (e : Expr) (result : Result (Unit {0}) TurnTrap) (s : List ℤ) (m : Memory) (s' : List ℤ) (m' : Memory)
       → Runs arrays (effect_node arrays (Stmt-F.Assign line name op.Set e)) (name ∷ []) result s m s' m' → Runs arrays (effect arrays (stmt.Declare line name e)) (changed (stmt.Declare line name e)) result s m s' m'
   runs_declare line name e result s m s' m' runs = runs_as (effect_node arrays (Stmt-F.Declare line name e)) (effect arrays (stmt.Declare line name e)) (name ∷ []) (changed (stmt.Declare line name e)) result s m s' m'
-      (effect-declare arrays line name e) (λ other apart. ap (λ ns. is_among ns other) (sym (changed-declare line name e)) ∙ apart) (record { same = runs.same; sizes = runs.sizes; kept = runs.kept })
+      (effect-declare arrays line name e) (λ other apart. ap (λ ns. is_among ns other) (sym (given-declare true line name e)) ∙ apart) (record { same = runs.same; sizes = runs.sizes; kept = runs.kept })
 
   -- `=` and `op=` of a word
   module _ (line : Line) (array : ℕ) (at right new : ℤ) (rest : Turn) (memory : Memory) where

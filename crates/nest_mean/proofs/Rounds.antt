@@ -22,7 +22,8 @@ use Rattle.nest_mean.specs.NamesChanged.{names_changed, changed_in_loop, KeepsOt
 use Rattle.nest_mean.specs.TurnRun.{ended}
 use Rattle.nest_mean.specs.CourseParts.{event_words, scalars_changed, at_iteration, next_number, Stand, Reaches, Passes, Iterates, IteratesAll, PassesTurns}
 use Rattle.nest_mean.specs.Saved.{taken_over, AreSaved}
-use Rattle.nest_mean.proofs.Names.{among_here, among_behind, keeps_then, keeps_more, keeps_set, changed_in_loop-is}
+use Rattle.nest_mean.proofs.Names.{among_here, among_behind, keeps_then, keeps_more, keeps_set}
+use Rattle.nest_syntax.proofs.Equations.{given_in_loop-is}
 use Rattle.nest_mean.proofs.Kept.{put_back_saved}
 
 -- a run that went another way before and came to the same
@@ -36,12 +37,12 @@ reaches_to (Ok r) next next' ending same reached = reached ∙ same r
 reaches_to (Err place) next next' ending same reached = reached
 
 -- an event is evaluated on its words
-pub event_is : {A : Type 0} (setting : Setting) (purpose : Purpose) (line : Line) (exprs : List Expr) (compute : List ℤ → Result A Cause) (go : A → Course)
+pub event_is : {A : Type 0} (setting : Setting) (purpose : Purpose) (scalars : List ℤ) (line : Line) (exprs : List Expr) (compute : List ℤ → Result A Cause) (go : A → Course)
     (sizes : List ℕ) (turn : ℕ → List ℤ → Turn) (k : ℕ) (words : List ℤ)
-    → ending_from sizes turn (event setting purpose line exprs compute go) k words ≡ ending_from sizes turn (computed line (compute (event_words setting.arrays exprs words setting.words)) go) k words
-event_is {A} setting purpose line exprs compute go sizes turn k words = by_kind (list_any (names_written setting.arrays) exprs)
+    → ending_from sizes turn (event setting purpose scalars line exprs compute go) k words ≡ ending_from sizes turn (computed line (compute (event_words setting.arrays exprs words setting.words)) go) k words
+event_is {A} setting purpose scalars line exprs compute go sizes turn k words = by_kind (list_any (names_written setting.arrays) exprs)
   where
-    by_kind : (drains : Bool) → ending_from sizes turn (if drains then Course.Drain purpose (λ ws. computed line (compute ws) go) else Course.Scalar purpose (computed line (compute setting.words) go)) k words
+    by_kind : (drains : Bool) → ending_from sizes turn (if drains then Course.Drain purpose scalars (λ ws. computed line (compute ws) go) else Course.Scalar purpose scalars (computed line (compute setting.words) go)) k words
         ≡ ending_from sizes turn (computed line (compute (if drains then words else setting.words)) go) k words
     by_kind true = refl
     by_kind false = refl
@@ -90,38 +91,38 @@ module _ (arrays : List Array) where
 
     pub record IsIterated (k : ℕ) (s : List ℤ) (n : ℕ) (m : Memory) : Type 0 where
       pub scalars : s ≡ s₀
-      pub same : (bodies : List (List Stmt)) (at : ℕ) → body_at bodies at ≡ invoked.body → (rest : Course) → ending_with bodies (iterations count 0 at scalars_in rest) n₀ m₀ ≡ ending_with bodies (iterations (count - k) k at scalars_in rest) n m
+      pub same : (bodies : List (List Stmt)) (at : ℕ) → body_at bodies at ≡ invoked.body → (rest : Course) → ending_with bodies (iterations count 0 at scalars_in s₀ rest) n₀ m₀ ≡ ending_with bodies (iterations (count - k) k at scalars_in s₀ rest) n m
       pub sizes : m.sizes ≡ m₀.sizes
       pub few : n ≤ n₀ + k
 
     pub iterations_begin : IsIterated 0 s₀ n₀ m₀
     iterations_begin = let all : count ≡ count - 0 = omega arith in record {
       scalars = refl;
-      same = λ bodies at is rest. ap (λ c. ending_with bodies (iterations c 0 at scalars_in rest) n₀ m₀) all;
+      same = λ bodies at is rest. ap (λ c. ending_with bodies (iterations c 0 at scalars_in s₀ rest) n₀ m₀) all;
       sizes = refl;
       few = omega arith;
     }
 
     module _ (k : ℕ) (there : k < count) (s : List ℤ) (n : ℕ) (m : Memory) (iterated : IsIterated k s n m) (start : List ℤ) (start_is : start ≡ with_scalar s invoked.name (variable low invoked.step k)) (s' : List ℤ) (n' : ℕ) (m' : Memory) where
       round : (bodies : List (List Stmt)) (at : ℕ) → body_at bodies at ≡ invoked.body → (rest : Course)
-          → ending_with bodies (iterations count 0 at scalars_in rest) n₀ m₀ ≡ ending_with bodies (Iterate at start (iterations (count - (k + 1)) (k + 1) at scalars_in rest)) n m
+          → ending_with bodies (iterations count 0 at scalars_in s₀ rest) n₀ m₀ ≡ ending_with bodies (Iterate at start (iterations (count - (k + 1)) (k + 1) at scalars_in s₀ rest)) n m
       round bodies at is rest =
           let left : count - k ≡ suc (count - (k + 1)) = omega arith in
           let begin : scalars_in k ≡ start = ap (λ t. with_scalar t invoked.name (variable low invoked.step k)) (sym iterated.scalars) ∙ sym start_is in
-          iterated.same bodies at is rest ∙ ap (λ c. ending_with bodies (iterations c k at scalars_in rest) n m) left
-          ∙ ap (λ t. ending_with bodies (Iterate at t (iterations (count - (k + 1)) (suc k) at scalars_in rest)) n m) begin
-          ∙ ap (λ j. ending_with bodies (Iterate at start (iterations (count - (k + 1)) j at scalars_in rest)) n m) (sym (add-one k))
+          iterated.same bodies at is rest ∙ ap (λ c. ending_with bodies (iterations c k at scalars_in s₀ rest) n m) left
+          ∙ ap (λ t. ending_with bodies (Iterate at t (iterations (count - (k + 1)) (suc k) at scalars_in s₀ rest)) n m) begin
+          ∙ ap (λ j. ending_with bodies (Iterate at start (iterations (count - (k + 1)) j at scalars_in s₀ rest)) n m) (sym (add-one k))
 
       pub iteration_runs : (saved s'' : List ℤ) → AreSaved (changed_in_loop invoked) s₀ saved → Iterates arrays invoked.body (names_changed invoked.body) (Ok tt) start n m s' n' m' → s'' ≡ taken_over (changed_in_loop invoked) saved s' → IsIterated (k + 1) s'' n' m'
       iteration_runs saved s'' are_saved ran back = record {
         scalars = back ∙ put_back_saved (changed_in_loop invoked) s₀ s' saved all_kept are_saved;
-        same = λ bodies at is rest. round bodies at is rest ∙ ran.same bodies at is (iterations (count - (k + 1)) (k + 1) at scalars_in rest);
+        same = λ bodies at is rest. round bodies at is rest ∙ ran.same bodies at is (iterations (count - (k + 1)) (k + 1) at scalars_in s₀ rest);
         sizes = ran.sizes ∙ iterated.sizes;
         few = omega (arith, ran.few, iterated.few);
       }
         where
           all_kept : KeepsOthers (changed_in_loop invoked) s₀ s'
-          all_kept = subst (λ names. KeepsOthers names s₀ s') (sym (changed_in_loop-is invoked))
+          all_kept = subst (λ names. KeepsOthers names s₀ s') (sym (given_in_loop-is true invoked))
               (keeps_then (invoked.name ∷ names_changed invoked.body) s₀ start s'
               (subst (λ t. KeepsOthers (invoked.name ∷ names_changed invoked.body) s₀ t) (ap (λ t. with_scalar t invoked.name (variable low invoked.step k)) (sym iterated.scalars) ∙ sym start_is)
               (keeps_set (invoked.name ∷ names_changed invoked.body) s₀ invoked.name (variable low invoked.step k) (among_here invoked.name (names_changed invoked.body))))
@@ -129,7 +130,7 @@ module _ (arrays : List Array) where
 
       pub iteration_stops : (stopped : Place) → Iterates arrays invoked.body (names_changed invoked.body) (Err stopped) start n m s' n' m' → IteratesAll arrays invoked low count (Err stopped) s₀ n₀ m₀ s' n' m'
       iteration_stops stopped ran = record {
-        same = λ bodies at is go. round bodies at is (go s₀) ∙ ran.same bodies at is (iterations (count - (k + 1)) (k + 1) at scalars_in (go s₀));
+        same = λ bodies at is go. round bodies at is (go s₀) ∙ ran.same bodies at is (iterations (count - (k + 1)) (k + 1) at scalars_in s₀ (go s₀));
         sizes = ran.sizes ∙ iterated.sizes;
         few = omega (arith, ran.few, iterated.few);
       }
@@ -138,7 +139,7 @@ module _ (arrays : List Array) where
     iterations_end k s n m over within iterated = record {
       same = λ bodies at is go.
           let none : count - k ≡ 0 = omega arith in
-          iterated.same bodies at is (go s₀) ∙ ap (λ c. ending_with bodies (iterations c k at scalars_in (go s₀)) n m) none ∙ ap (λ t. ending_with bodies (go t) n m) (sym iterated.scalars);
+          iterated.same bodies at is (go s₀) ∙ ap (λ c. ending_with bodies (iterations c k at scalars_in s₀ (go s₀)) n m) none ∙ ap (λ t. ending_with bodies (go t) n m) (sym iterated.scalars);
       sizes = iterated.sizes;
       few = omega (arith, iterated.few);
     }

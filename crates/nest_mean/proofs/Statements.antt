@@ -14,14 +14,14 @@ use Rattle.nest_syntax.specs.Arrays.{Array, sizes_of, located}
 use Rattle.nest_syntax.specs.Value.{value}
 use Rattle.nest_syntax.specs.Turn.{Turn, Go, Effect, reckoning, inside, writing, sequence, repeat, looping, choose, effect, loop_effect}
 use Rattle.nest_syntax.specs.Reads.{on_words}
-use Rattle.nest_syntax.proofs.Equations.{arm_effect, arm_effect-is, loop_effect-is, effect-write, effect-if}
+use Rattle.nest_syntax.proofs.Equations.{arm_effect, arm_effect-is, loop_effect-is, effect-write, effect-if, given-if, given_in_arm-is}
 use Rattle.word_store.specs.Memory.{Memory}
 use Rattle.nest_mean.specs.declared.bodies.TurnTrap.{TurnTrap}
 use Rattle.std.specs.List.{concat}
 use Rattle.nest_syntax.specs.Among.{is_among}
 use Rattle.nest_mean.specs.NamesChanged.{changed, changed_in_arm, changed_in_loop, names_changed, KeepsOthers}
 use Rattle.nest_mean.specs.TurnParts.{went_on_with, at_line, Runs, RunsArms}
-use Rattle.nest_mean.proofs.Names.{among_left, among_right, among_part, keeps_same, keeps_then, keeps_more, changed-if, changed_in_arm-is}
+use Rattle.nest_mean.proofs.Names.{among_left, among_right, among_part, keeps_same, keeps_then, keeps_more}
 use Rattle.nest_mean.proofs.Parts.{reckoned_at, runs_stops}
 
 module _ (arrays : List Array) where
@@ -56,7 +56,7 @@ module _ (arrays : List Array) where
       test_is other s m go result is = ap (λ t. on_words (sizes_of arrays) t m.words) (arm_at other s go) ∙ reckoned_at arrays s m.words here.test here.line result is _
 
       here_names : (name : ℕ) → is_among (concat (map changed_in_arm arms)) name ≡ false → is_among (names_changed here.body) name ≡ false
-      here_names name apart = ap (λ ns. is_among ns name) (sym (changed_in_arm-is here)) ∙ ap (λ x. is_among (changed_in_arm x) name) here_is ∙ among_part changed_in_arm arms i here there name apart
+      here_names name apart = ap (λ ns. is_among ns name) (sym (given_in_arm-is true here)) ∙ ap (λ x. is_among (changed_in_arm x) name) here_is ∙ among_part changed_in_arm arms i here there name apart
 
       -- an arm whose test is 0
       pub arm_passes : (v : ℤ) (s₀ : List ℤ) (m₀ : Memory) (s : List ℤ) (m : Memory) → AreLeft i s₀ m₀ s m → Ok v ≡ at_line here.line (value arrays s m.words here.test) → is_zero v ≡ true → AreLeft (i + 1) s₀ m₀ s m
@@ -179,10 +179,10 @@ module _ (arrays : List Array) where
     if_is go = ap (λ f. on_words (sizes_of arrays) (f s go) m.words) (effect-if arrays arms other)
 
     arms_names : (name : ℕ) → is_among (changed (stmt.If arms other)) name ≡ false → is_among (concat (map changed_in_arm arms)) name ≡ false
-    arms_names name apart = among_left (concat (map changed_in_arm arms)) (concat (map changed other)) name (ap (λ ns. is_among ns name) (sym (changed-if arms other)) ∙ apart)
+    arms_names name apart = among_left (concat (map changed_in_arm arms)) (concat (map changed other)) name (ap (λ ns. is_among ns name) (sym (given-if true arms other)) ∙ apart)
 
     other_names : (name : ℕ) → is_among (changed (stmt.If arms other)) name ≡ false → is_among (names_changed other) name ≡ false
-    other_names name apart = among_right (concat (map changed_in_arm arms)) (concat (map changed other)) name (ap (λ ns. is_among ns name) (sym (changed-if arms other)) ∙ apart)
+    other_names name apart = among_right (concat (map changed_in_arm arms)) (concat (map changed other)) name (ap (λ ns. is_among ns name) (sym (given-if true arms other)) ∙ apart)
 
     abbrev ArmsRun : Result Bool TurnTrap → Type 0
     ArmsRun taken = RunsArms arrays (map (arm_effect arrays) arms) (concat (map changed_in_arm arms)) taken s m s' m'

@@ -17,12 +17,11 @@ use Rattle.nest_syntax.specs.Arrays.{Array, sizes_of}
 use Rattle.nest_syntax.specs.Value.{value, with_scalar}
 use Rattle.nest_syntax.specs.Course.{Setting, Course, Ordinary, Header, Item, Tested, computed, event, iterations, region_turns, in_order, chosen, item_of, item_node, looped_of, region_of, tested_of}
 use Rattle.nest_syntax.specs.Outcome.{Ending, TrappedAt, place_of_trap, turn_in, ending_from}
-use Rattle.nest_syntax.proofs.Equations.{tested-is, looped-is, item-declare, item-assign, item-write, item-if, item-loop}
+use Rattle.nest_syntax.proofs.Equations.{tested-is, looped-is, item-declare, item-assign, item-write, item-if, item-loop, given-write}
 use Rattle.word_store.specs.Memory.{Memory}
 use Rattle.nest_syntax.specs.declared.place.Place.{Place}
 use Rattle.nest_mean.specs.NamesChanged.{names_changed, KeepsOthers}
 use Rattle.nest_mean.specs.CourseParts.{event_words, header, scalars_changed, with_result, at_scheduler, Stand, Reaches, Passes, bodies_in, PassesArms, Iterates, IteratesAll, PassesTurns, items_in}
-use Rattle.nest_mean.proofs.Names.{changed-write}
 use Rattle.nest_mean.proofs.Rounds.{reaches_from, reaches_to, event_is}
 
 stand_front : (bodies : List (List Stmt)) (first : ℕ) (xs ys : List (List Stmt)) → Stand bodies first (xs ++ ys) → Stand bodies first xs
@@ -154,7 +153,7 @@ module _ (arrays : List Array) (opening : List ℤ) where
   item_assigns line name o e changed' result s n m s' is answer = record {
     same = λ bodies first stands go.
         reaches_from result _ _ _
-        (event_is setting Ordinary line (e ∷ []) (scalars_changed arrays name o e s) go (sizes_of arrays) (turn_in arrays bodies) n m.words
+        (event_is setting Ordinary s line (e ∷ []) (scalars_changed arrays name o e s) go (sizes_of arrays) (turn_in arrays bodies) n m.words
         ∙ ap (λ r. ends bodies (computed line r go) n m) (sym is))
         (by_result bodies go changed' answer);
     sizes = refl;
@@ -180,13 +179,13 @@ module _ (arrays : List Array) (opening : List ℤ) where
   pub item_write : (line : Line) (name : ℕ) (place : Expr) (o : Op) (e : Expr) (result : Result (Unit {0}) Place) (s : List ℤ) (n : ℕ) (m : Memory) (s' : List ℤ) (n' : ℕ) (m' : Memory)
       → Iterates arrays (stmt.Write line name place o e ∷ []) (names_changed (stmt.Write line name place o e ∷ [])) result s n m s' n' m' → Passes arrays (item_of setting (stmt.Write line name place o e)) 16777216 result s n m s' n' m'
   item_write line name place o e result s n m s' n' m' ran = passes_as _ _ _ _ _ _ _ _ _ _ (item-write setting line name place o e) (record {
-    same = λ bodies first stands go. reaches_to result (λ done. ends bodies (go s) n' m') (λ done. ends bodies (go s') n' m') _ (λ done. ap (λ t. ends bodies (go t) n' m') (sym same_scalars)) (ran.same bodies first stands.0 (Course.Close (go s)));
+    same = λ bodies first stands go. reaches_to result (λ done. ends bodies (go s) n' m') (λ done. ends bodies (go s') n' m') _ (λ done. ap (λ t. ends bodies (go t) n' m') (sym same_scalars)) (ran.same bodies first stands.0 (Course.Close s (go s)));
     sizes = ran.sizes;
     few = omega (arith, ran.few);
   })
     where
       kept : KeepsOthers [] s s'
-      kept = subst (λ names. KeepsOthers names s s') (ap (λ names. names ++ []) (changed-write line name place o e)) ran.kept
+      kept = subst (λ names. KeepsOthers names s s') (ap (λ names. names ++ []) (given-write true line name place o e)) ran.kept
 
       same_scalars : s' ≡ s
       same_scalars = ext_get_or (pos 0) s' s kept.many (λ at there. kept.others at refl)
@@ -195,7 +194,7 @@ module _ (arrays : List Array) (opening : List ℤ) where
   abbrev pub invocation_item : Loop → Item
   invocation_item l = record {
     bodies = l.body ∷ [];
-    events = λ first scalars go. event setting Header l.line (l.low ∷ l.high ∷ []) (header arrays l scalars) (λ b. iterations b.1 0 first (λ k. with_scalar scalars l.name (variable b.0 l.step k)) (go scalars));
+    events = λ first scalars go. event setting Header scalars l.line (l.low ∷ l.high ∷ []) (header arrays l scalars) (λ b. iterations b.1 0 first (λ k. with_scalar scalars l.name (variable b.0 l.step k)) scalars (go scalars));
   }
 
   pub invocation-is : (l : Loop) → (looped_of setting l).invocation ≡ invocation_item l
@@ -204,20 +203,20 @@ module _ (arrays : List Array) (opening : List ℤ) where
   abbrev pub region_item : Loop → Item
   region_item l = record {
     bodies = (items_in setting l.body).bodies;
-    events = λ first scalars go. event setting Ordinary l.line (l.low ∷ l.high ∷ []) (header arrays l scalars) (λ b. region_turns b.1 0 (variable b.0 l.step) l.name ((items_in setting l.body).events first) scalars go);
+    events = λ first scalars go. event setting Ordinary scalars l.line (l.low ∷ l.high ∷ []) (header arrays l scalars) (λ b. region_turns b.1 0 (variable b.0 l.step) l.name ((items_in setting l.body).events first) scalars go);
   }
 
   pub region-is : (l : Loop) → region_of setting l ≡ region_item l
   region-is l = ap (λ i. i.region) (looped-is setting l)
-      ∙ ap (λ (items : List Item). record { bodies = (in_order items).bodies; events = λ first scalars go. event setting Ordinary l.line (l.low ∷ l.high ∷ []) (header arrays l scalars) (λ b. region_turns b.1 0 (variable b.0 l.step) l.name ((in_order items).events first) scalars go) }) (map_second (item_of setting) l.body)
+      ∙ ap (λ (items : List Item). record { bodies = (in_order items).bodies; events = λ first scalars go. event setting Ordinary scalars l.line (l.low ∷ l.high ∷ []) (header arrays l scalars) (λ b. region_turns b.1 0 (variable b.0 l.step) l.name ((in_order items).events first) scalars go) }) (map_second (item_of setting) l.body)
 
   module _ (l : Loop) (s : List ℤ) (n : ℕ) (m : Memory) where
     pub invocation_traps : (cause : Cause) → Err cause ≡ header arrays l s (event_words arrays (l.low ∷ l.high ∷ []) m.words opening)
         → Passes arrays (looped_of setting l).invocation 16777216 (Err (place_of_trap cause l.line n true)) s n m s n m
     invocation_traps cause is = passes_as _ _ _ _ _ _ _ _ _ _ (invocation-is l) (record {
       same = λ bodies first stands go.
-          event_is setting Header l.line (l.low ∷ l.high ∷ []) (header arrays l s) (λ b. iterations b.1 0 first (λ k. with_scalar s l.name (variable b.0 l.step k)) (go s)) (sizes_of arrays) (turn_in arrays bodies) n m.words
-          ∙ ap (λ r. ends bodies (computed l.line r (λ b. iterations b.1 0 first (λ k. with_scalar s l.name (variable b.0 l.step k)) (go s))) n m) (sym is);
+          event_is setting Header s l.line (l.low ∷ l.high ∷ []) (header arrays l s) (λ b. iterations b.1 0 first (λ k. with_scalar s l.name (variable b.0 l.step k)) s (go s)) (sizes_of arrays) (turn_in arrays bodies) n m.words
+          ∙ ap (λ r. ends bodies (computed l.line r (λ b. iterations b.1 0 first (λ k. with_scalar s l.name (variable b.0 l.step k)) s (go s))) n m) (sym is);
       sizes = refl;
       few = omega arith;
     })
@@ -227,8 +226,8 @@ module _ (arrays : List Array) (opening : List ℤ) where
     invocation_runs low count is few result s' n' m' ran = passes_as _ _ _ _ _ _ _ _ _ _ (invocation-is l) (record {
       same = λ bodies first stands go.
           reaches_from result _ _ _
-          (event_is setting Header l.line (l.low ∷ l.high ∷ []) (header arrays l s) (λ b. iterations b.1 0 first (λ k. with_scalar s l.name (variable b.0 l.step k)) (go s)) (sizes_of arrays) (turn_in arrays bodies) n m.words
-          ∙ ap (λ r. ends bodies (computed l.line r (λ b. iterations b.1 0 first (λ k. with_scalar s l.name (variable b.0 l.step k)) (go s))) n m) (sym is))
+          (event_is setting Header s l.line (l.low ∷ l.high ∷ []) (header arrays l s) (λ b. iterations b.1 0 first (λ k. with_scalar s l.name (variable b.0 l.step k)) s (go s)) (sizes_of arrays) (turn_in arrays bodies) n m.words
+          ∙ ap (λ r. ends bodies (computed l.line r (λ b. iterations b.1 0 first (λ k. with_scalar s l.name (variable b.0 l.step k)) s (go s))) n m) (sym is))
           (ran.same bodies first stands.0 go);
       sizes = ran.sizes;
       few = omega (arith, ran.few);
@@ -238,7 +237,7 @@ module _ (arrays : List Array) (opening : List ℤ) where
         → Passes arrays (region_of setting l) most (Err (place_of_trap cause l.line n true)) s n m s n m
     region_traps cause most is = passes_as _ _ _ _ _ _ _ _ _ _ (region-is l) (record {
       same = λ bodies first stands go.
-          event_is setting Ordinary l.line (l.low ∷ l.high ∷ []) (header arrays l s) (λ b. region_turns b.1 0 (variable b.0 l.step) l.name ((items_in setting l.body).events first) s go) (sizes_of arrays) (turn_in arrays bodies) n m.words
+          event_is setting Ordinary s l.line (l.low ∷ l.high ∷ []) (header arrays l s) (λ b. region_turns b.1 0 (variable b.0 l.step) l.name ((items_in setting l.body).events first) s go) (sizes_of arrays) (turn_in arrays bodies) n m.words
           ∙ ap (λ r. ends bodies (computed l.line r (λ b. region_turns b.1 0 (variable b.0 l.step) l.name ((items_in setting l.body).events first) s go)) n m) (sym is);
       sizes = refl;
       few = omega arith;
@@ -249,7 +248,7 @@ module _ (arrays : List Array) (opening : List ℤ) where
     region_runs low count is few result s' n' m' ran = passes_as _ _ _ _ _ _ _ _ _ _ (region-is l) (record {
       same = λ bodies first stands go.
           reaches_from result _ _ _
-          (event_is setting Ordinary l.line (l.low ∷ l.high ∷ []) (header arrays l s) (λ b. region_turns b.1 0 (variable b.0 l.step) l.name ((items_in setting l.body).events first) s go) (sizes_of arrays) (turn_in arrays bodies) n m.words
+          (event_is setting Ordinary s l.line (l.low ∷ l.high ∷ []) (header arrays l s) (λ b. region_turns b.1 0 (variable b.0 l.step) l.name ((items_in setting l.body).events first) s go) (sizes_of arrays) (turn_in arrays bodies) n m.words
           ∙ ap (λ r. ends bodies (computed l.line r (λ b. region_turns b.1 0 (variable b.0 l.step) l.name ((items_in setting l.body).events first) s go)) n m) (sym is))
           (ran.same bodies first stands go);
       sizes = ran.sizes;
@@ -260,12 +259,12 @@ module _ (arrays : List Array) (opening : List ℤ) where
   abbrev pub tested_item : Arm → Tested
   tested_item arm = record {
     bodies = (items_in setting arm.body).bodies;
-    events = λ first scalars otherwise go. event setting Ordinary arm.line (arm.test ∷ []) (λ words. value arrays scalars words arm.test) (λ test. if is_zero test then otherwise else (items_in setting arm.body).events first scalars go);
+    events = λ first scalars otherwise go. event setting Ordinary scalars arm.line (arm.test ∷ []) (λ words. value arrays scalars words arm.test) (λ test. if is_zero test then otherwise else (items_in setting arm.body).events first scalars go);
   }
 
   pub tested_of-is : (arm : Arm) → tested_of setting arm ≡ tested_item arm
   tested_of-is arm = tested-is setting arm
-      ∙ ap (λ (items : List Item). record { bodies = (in_order items).bodies; events = λ first scalars otherwise go. event setting Ordinary arm.line (arm.test ∷ []) (λ words. value arrays scalars words arm.test) (λ test. if is_zero test then otherwise else (in_order items).events first scalars go) }) (map_second (item_of setting) arm.body)
+      ∙ ap (λ (items : List Item). record { bodies = (in_order items).bodies; events = λ first scalars otherwise go. event setting Ordinary scalars arm.line (arm.test ∷ []) (λ words. value arrays scalars words arm.test) (λ test. if is_zero test then otherwise else (in_order items).events first scalars go) }) (map_second (item_of setting) arm.body)
 
   abbrev pub before_arms : Tested → Item → Item
   before_arms arm others = record {
@@ -340,7 +339,7 @@ module _ (arrays : List Array) (opening : List ℤ) where
           ∙ ap (λ k. ends bodies ((arms_left i other).events (first + ahead.passed) s go) k m₀) (sym ahead.number)
           ∙ ap (λ w. ends bodies ((arms_left i other).events (first + ahead.passed) s go) n w) (sym ahead.memory)
           ∙ ap (λ (item : Item). ends bodies (item.events (first + ahead.passed) s go) n m) (left-is other)
-          ∙ event_is setting Ordinary here.line (here.test ∷ []) (λ words. value arrays s words here.test)
+          ∙ event_is setting Ordinary s here.line (here.test ∷ []) (λ words. value arrays s words here.test)
           (λ test. if is_zero test then (arms_left (i + 1) other).events (first + ahead.passed + length (items_in setting here.body).bodies) s go else (items_in setting here.body).events (first + ahead.passed) s go)
           (sizes_of arrays) (turn_in arrays bodies) n m.words
           ∙ ap (λ r. ends bodies (computed here.line r (λ test. if is_zero test then (arms_left (i + 1) other).events (first + ahead.passed + length (items_in setting here.body).bodies) s go else (items_in setting here.body).events (first + ahead.passed) s go)) n m) (sym is)

@@ -107,7 +107,7 @@ items_in setting stmts = in_order (map (item_of setting) stmts)
 pub record IteratesAll (arrays : List Array) (invoked : Loop) (low : ℤ) (count : ℕ) (result : Result (Unit {0}) Place) (scalars : List ℤ) (number : ℕ) (memory : Memory) (scalars' : List ℤ) (number' : ℕ) (memory' : Memory) : Type 0 where
   pub same : (bodies : List (List Stmt)) (at : ℕ) → body_at bodies at ≡ invoked.body → (go : List ℤ → Course)
       → Reaches result (λ done. ending_from (sizes_of arrays) (turn_in arrays bodies) (go scalars') number' memory'.words)
-      (ending_from (sizes_of arrays) (turn_in arrays bodies) (iterations count 0 at (λ k. with_scalar scalars invoked.name (variable low invoked.step k)) (go scalars)) number memory.words)
+      (ending_from (sizes_of arrays) (turn_in arrays bodies) (iterations count 0 at (λ k. with_scalar scalars invoked.name (variable low invoked.step k)) scalars (go scalars)) number memory.words)
   pub sizes : memory'.sizes ≡ memory.sizes
   pub few : number' ≤ number + count
 

@@ -2,6 +2,7 @@ pub mod NamesChanged
 pub mod TurnRun
 pub mod TurnParts
 pub mod Nest
+pub mod Bound
 pub mod Outcomes
 pub mod CourseParts
 pub mod Saved

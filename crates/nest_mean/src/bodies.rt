@@ -1,4 +1,4 @@
-ghost use Rattle.std.specs.Prelude.{◌≡◌, ◌↔◌, ◌<◌, IsTrue, ℕ, ℤ, pos, List, [], ◌∷◌, map, length, FitsSigned, IfOk, false};
+ghost use Rattle.std.specs.Prelude.{◌≡◌, ◌↔◌, ◌<◌, IsTrue, ℕ, ℤ, pos, List, [], ◌∷◌, map, length, FitsSigned, IfOk, IfSome, false};
 ghost use Rattle.std.specs.Int.{w64};
 ghost use Rattle.std.specs.List.{concat};
 ghost use Rattle.nest_syntax.specs.declared.tree.Stmt.TheOpen.{Stmt-F};
@@ -11,12 +11,14 @@ ghost use Rattle.nest_syntax.specs.Course.{bodies_of};
 ghost use Rattle.nest_syntax.specs.Outcome.{body_at};
 ghost use Rattle.nest_syntax.proofs.Equations.{arm_effect};
 ghost use Rattle.nest_syntax.specs.Among.{is_among};
+ghost use Rattle.nest_syntax.specs.Locals.{locals_of};
 ghost use Rattle.nest_mean.specs.NamesChanged.{names_changed, changed, changed_in_arm, changed_in_loop};
 ghost use Rattle.nest_mean.specs.TurnRun.{ended};
 ghost use Rattle.nest_mean.specs.TurnParts.{Runs, RunsArms, went_on_with, at_line, wrote};
 
 use crate::expressions::{array_of, eval, is_zero};
 use crate::numbered::body_in_regions;
+use crate::saved::clear_locals;
 use crate::values::Scalars;
 use nest_check::Checked;
 use nest_syntax::{Arm, Cause, Expr, Line, Loop, Op, Stmt};
@@ -29,8 +31,9 @@ pub struct TurnTrap {
     pub line: Line,
 }
 
-/// Runs one iteration of the body with this number, which `has_body` has. At a trap the words stand as they were at that moment. Each name
-/// that the body neither declares nor assigns nor has as a loop's variable keeps its scalar; the others stand changed.
+/// Runs one iteration of the body with this number, which `has_body` has. Each local begins with 0, whatever its name's
+/// scalar has. At a trap the words stand as they were at that moment. The scalars of the locals stand changed, and so do
+/// those of other names that the body assigns, which no body of a checked program does; all others are kept.
 pub fn run_turn(
     checked: &Checked,
     body: u32,
@@ -46,7 +49,7 @@ pub fn run_turn(
     ensures others { (name : ℕ) → is_among (names_changed (body_at (bodies_of checked.now) body)) name ≡ false → scalar_at scalars.new name ≡ scalar_at scalars.old name }
 {
     match body_in_regions(checked.program().regions.as_slice(), body) {
-        Ok(stmts) => run_body(stmts, scalars, words, checked),
+        Ok(stmts) => run_body(stmts, None, scalars, words, checked),
         Err(_) => Ok(()),
     }
 }
@@ -61,13 +64,15 @@ pub fn has_body(checked: &Checked, body: u32) -> bool
     }
 }
 
-/// Runs one iteration of a body, as `run_turn` does.
+/// Runs one iteration of a body, as `run_turn` does; a list of its locals spares a walk over its text.
 pub(crate) fn run_body(
     body: &[Stmt],
+    locals: Option<&[u32]>,
     scalars: &mut Scalars,
     words: &mut Words,
     checked: &Checked,
 ) -> Result<(), TurnTrap>
+    requires locals { IfSome locals (λ list. (name : ℕ) → is_among list.now name ≡ is_among (locals_of body.now) name) }
     requires sizes { words.old.sizes ≡ sizes_of (arrays_of checked.now.decls) }
     ensures turn { on_words (sizes_of (arrays_of checked.now.decls)) (turn_of (arrays_of checked.now.decls) body.now scalars.old) words.old.words
         ≡ ended result words.new.words }
@@ -75,6 +80,7 @@ pub(crate) fn run_body(
     ensures names { length scalars.new ≡ length scalars.old }
     ensures others { (name : ℕ) → is_among (names_changed body.now) name ≡ false → scalar_at scalars.new name ≡ scalar_at scalars.old name }
 {
+    clear_locals(body, locals, scalars);
     run_block(body, scalars, words, checked)
 }
 

@@ -3,14 +3,15 @@ ghost use Rattle.std.specs.Int.{w64};
 ghost use Rattle.nest_syntax.specs.Words.{variable};
 ghost use Rattle.nest_syntax.specs.Arrays.{arrays_of, sizes_of};
 ghost use Rattle.nest_syntax.specs.Among.{is_among};
+ghost use Rattle.nest_syntax.specs.Locals.{locals_of};
 ghost use Rattle.nest_mean.specs.NamesChanged.{names_changed, changed_in_loop};
 ghost use Rattle.nest_mean.specs.Saved.{AreSaved};
 ghost use Rattle.nest_mean.specs.CourseParts.{Iterates, IteratesAll, at_iteration, next_number};
 
 use crate::bodies::{TurnTrap, run_body};
-use crate::few::few_names;
+use crate::few::{few_changed, few_locals};
 use crate::run_scalars::RunScalars;
-use crate::saved::{put_back, take_over_loop};
+use crate::saved::{put_aside, put_back};
 use crate::values::Scalars;
 use nest_check::Checked;
 use nest_syntax::{Loop, Place, Stmt};
@@ -32,15 +33,21 @@ pub(crate) fn run_iterations(
     requires room { number.old + count < 2 ^ 64 }
     ensures { IteratesAll (arrays_of checked.now.decls) invoked.now low count result scalars.old number.old words.old scalars.new number.new words.new }
 {
-    take_over_loop(invoked, &scalars.present, &mut scalars.aside);
-    let few = few_names(invoked);
+    put_aside(invoked, &scalars.present, &mut scalars.aside);
+    let few = few_changed(invoked);
     let names = match &few {
         Some(names) => Some(names.as_slice()),
+        None => None,
+    };
+    let few_locals = few_locals(invoked.body.as_slice());
+    let locals = match &few_locals {
+        Some(locals) => Some(locals.as_slice()),
         None => None,
     };
     iterate(
         invoked,
         names,
+        locals,
         low,
         count,
         &mut scalars.present,
@@ -55,6 +62,7 @@ pub(crate) fn run_iterations(
 fn iterate(
     invoked: &Loop,
     names: Option<&[u32]>,
+    locals: Option<&[u32]>,
     low: i64,
     count: u64,
     scalars: &mut Scalars,
@@ -65,6 +73,7 @@ fn iterate(
 ) -> Result<(), Place>
     requires sizes { words.old.sizes ≡ sizes_of (arrays_of checked.now.decls) }
     requires names { IfSome names (λ list. (name : ℕ) → is_among list.now name ≡ is_among (changed_in_loop invoked.now) name) }
+    requires locals { IfSome locals (λ list. (name : ℕ) → is_among list.now name ≡ is_among (locals_of invoked.now.body) name) }
     requires saved { AreSaved (changed_in_loop invoked.now) scalars.old saved.now }
     requires reach { (k : ℕ) → k < count → FitsSigned w64 (variable low invoked.now.step k) }
     requires room { number.old + count < 2 ^ 64 }
@@ -73,7 +82,14 @@ fn iterate(
 {
     for k in 0..count {
         scalars.set(invoked.name, value_in_turn(low, invoked.step, k));
-        run_iteration(invoked.body.as_slice(), scalars, number, words, checked)?;
+        run_iteration(
+            invoked.body.as_slice(),
+            locals,
+            scalars,
+            number,
+            words,
+            checked,
+        )?;
         put_back(invoked, names, saved, scalars);
     }
     Ok(())
@@ -81,16 +97,18 @@ fn iterate(
 
 fn run_iteration(
     body: &[Stmt],
+    locals: Option<&[u32]>,
     scalars: &mut Scalars,
     number: &mut u64,
     words: &mut Words,
     checked: &Checked,
 ) -> Result<(), Place>
     requires sizes { words.old.sizes ≡ sizes_of (arrays_of checked.now.decls) }
+    requires locals { IfSome locals (λ list. (name : ℕ) → is_among list.now name ≡ is_among (locals_of body.now) name) }
     requires room { number.old + 1 < 2 ^ 64 }
     ensures { Iterates (arrays_of checked.now.decls) body.now (names_changed body.now) result scalars.old number.old words.old scalars.new number.new words.new }
 {
-    let ended = run_body(body, scalars, words, checked);
+    let ended = run_body(body, locals, scalars, words, checked);
     count_iteration(ended, number)
 }
 
@@ -108,6 +126,7 @@ pub(crate) fn run_write(
 {
     run_iteration(
         slice::from_ref(stmt),
+        None,
         &mut scalars.present,
         number,
         words,

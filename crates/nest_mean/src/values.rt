@@ -44,4 +44,11 @@ impl Scalars {
             self.values[name as usize] = value;
         }
     }
+
+    /// The values, in the order of the numbers of names.
+    pub(crate) fn as_slice(&self) -> &[i64]
+        ensures { result.now ≡ self.now }
+    {
+        self.values.as_slice()
+    }
 }

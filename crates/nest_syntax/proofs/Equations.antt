@@ -1,5 +1,6 @@
 -- What the folds over the tree are at each kind of node, as equations.
-use Rattle.std.proofs.Common.{◌≡◌, ℕ, ℤ, Bool, false, ◌||◌, if◌then◌else◌, Result, Ok, List, map, sym, ap, ◌∙◌}
+use Rattle.std.proofs.Common.{◌≡◌, ℕ, ℤ, Bool, false, ◌||◌, if◌then◌else◌, Result, Ok, List, [], ◌∷◌, ◌++◌, map, sym, ap, ◌∙◌}
+use Rattle.std.specs.List.{concat}
 use Rattle.nest_syntax.specs.declared.names.Line.{Line}
 use Rattle.nest_syntax.specs.declared.operators.Bin.{Bin}
 use Rattle.nest_syntax.specs.declared.operators.Un.{Un}
@@ -21,6 +22,7 @@ use Rattle.nest_syntax.specs.Words.{is_zero, apply_un, turns, counted, variable}
 use Rattle.nest_syntax.specs.Arrays.{Array}
 use Rattle.nest_syntax.specs.Value.{value, value_node, and_then, operate, read, scalar_at, names_written, names_written_node, is_written}
 use Rattle.nest_syntax.specs.Turn.{Go, Reckoning, Effect, Arm_effect, reckoning, reckoning_node, effect, effect_node, arm_node, loop_node, loop_effect, sequence, looping}
+use Rattle.nest_syntax.specs.Locals.{given, given_node, given_arm_node, given_loop_node, given_in_arm, given_in_loop, names_given}
 use Rattle.nest_syntax.specs.Course.{Setting, Item, Tested, Looped, item_node, tested_node, looped_node, item_of, tested_of, looped_of}
 
 -- the value of an expression
@@ -108,6 +110,29 @@ module _ (arrays : List Array) where
 
   pub loop_effect-is : (l : Loop) → loop_effect arrays l ≡ (λ scalars go. reckoning arrays l.low l.line scalars (λ low. reckoning arrays l.high l.line scalars (λ high. looping l.line (counted (turns low high l.step l.through)) (variable low l.step) l.name (sequence (map (effect arrays) l.body)) scalars go)))
   loop_effect-is l = fold_out-Loop Effect Arm_effect Effect (effect_node arrays) (arm_node arrays) (loop_node arrays) l
+
+-- the names that a statement, an arm and a loop give values
+module _ (assigned : Bool) where
+  pub given-declare : (line : Line) (name : ℕ) (e : Expr) → given assigned (stmt.Declare line name e) ≡ name ∷ []
+  given-declare line name e = ap (given assigned) (sym (rolls-Declare line name e)) ∙ fold-roll-Stmt (List ℕ) (List ℕ) (List ℕ) (given_node assigned) given_arm_node given_loop_node (Stmt-F.Declare line name e)
+
+  pub given-assign : (line : Line) (name : ℕ) (o : Change) (e : Expr) → given assigned (stmt.Assign line name o e) ≡ (if assigned then name ∷ [] else [])
+  given-assign line name o e = ap (given assigned) (sym (rolls-Assign line name o e)) ∙ fold-roll-Stmt (List ℕ) (List ℕ) (List ℕ) (given_node assigned) given_arm_node given_loop_node (Stmt-F.Assign line name o e)
+
+  pub given-write : (line : Line) (name : ℕ) (p : Expr) (o : Change) (e : Expr) → given assigned (stmt.Write line name p o e) ≡ []
+  given-write line name p o e = ap (given assigned) (sym (rolls-Write line name p o e)) ∙ fold-roll-Stmt (List ℕ) (List ℕ) (List ℕ) (given_node assigned) given_arm_node given_loop_node (Stmt-F.Write line name p o e)
+
+  pub given-if : (arms : List Arm) (other : List Stmt) → given assigned (stmt.If arms other) ≡ concat (map (given_in_arm assigned) arms) ++ names_given assigned other
+  given-if arms other = ap (given assigned) (sym (rolls-If arms other)) ∙ fold-roll-Stmt (List ℕ) (List ℕ) (List ℕ) (given_node assigned) given_arm_node given_loop_node (Stmt-F.If arms other)
+
+  pub given-loop : (l : Loop) → given assigned (stmt.Loop l) ≡ given_in_loop assigned l
+  given-loop l = ap (given assigned) (sym (rolls-Loop l)) ∙ fold-roll-Stmt (List ℕ) (List ℕ) (List ℕ) (given_node assigned) given_arm_node given_loop_node (Stmt-F.Loop l)
+
+  pub given_in_arm-is : (arm : Arm) → given_in_arm assigned arm ≡ names_given assigned arm.body
+  given_in_arm-is arm = fold_out-Arm (List ℕ) (List ℕ) (List ℕ) (given_node assigned) given_arm_node given_loop_node arm
+
+  pub given_in_loop-is : (l : Loop) → given_in_loop assigned l ≡ l.name ∷ names_given assigned l.body
+  given_in_loop-is l = fold_out-Loop (List ℕ) (List ℕ) (List ℕ) (given_node assigned) given_arm_node given_loop_node l
 
 -- what a statement, an arm and a loop are among the items
 module _ (setting : Setting) where

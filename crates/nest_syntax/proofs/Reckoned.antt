@@ -13,12 +13,7 @@ use Rattle.nest_syntax.specs.Words.{is_zero, truth, apply, apply_un}
 use Rattle.nest_syntax.specs.Arrays.{Array, located, sizes_of, word_number, word_at}
 use Rattle.nest_syntax.specs.Value.{value, value_node, and_then, operate, read}
 use Rattle.nest_syntax.specs.Turn.{Turn, Load, Op, Go, Reckoning, reckoning, reckoning_node, operation_turn, done_with, inside}
-use Rattle.nest_syntax.specs.Reads.{Ended, Stopped, on_words}
-
--- a turn that goes on with a result, or traps
-abbrev pub answered : List ℕ → Line → Result ℤ Cause → (ℤ → Turn) → List ℤ → Ended
-answered sizes line (Ok result) go words = on_words sizes (go result) words
-answered sizes line (Err cause) go words = Stopped cause line words
+use Rattle.nest_syntax.specs.Reads.{on_words, answered}
 
 -- an operation that may trap
 pub done_with-answered : (sizes : List ℕ) (line : Line) (result : Result ℤ Cause) (go : ℤ → Turn) (words : List ℤ) → on_words sizes (done_with line result go) words ≡ answered sizes line result go words

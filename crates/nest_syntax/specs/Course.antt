@@ -24,13 +24,14 @@ pub data Purpose : Type 0 where
   Ordinary : Purpose
   Header : Purpose
 
+-- Each event but the last has the scalars before it; at an iteration its variable is among them.
 pub data Course : Type 0 where
   End : Course  -- the end of the program
   Failed : Cause → Line → Course  -- the event before it trapped
-  Scalar : Purpose → Course → Course  -- an event that computes with scalars and `const` words
-  Drain : Purpose → (List ℤ → Course) → Course  -- one that reads written arrays, on the words at that moment
-  Iterate : ℕ → List ℤ → Course → Course  -- an iteration of the body with this number, with these scalars
-  Close : Course → Course  -- the end of an invocation
+  Scalar : Purpose → List ℤ → Course → Course  -- an event that computes with scalars and `const` words
+  Drain : Purpose → List ℤ → (List ℤ → Course) → Course  -- one that reads written arrays, on the words at that moment
+  Iterate : ℕ → List ℤ → Course → Course  -- an iteration of the body with this number
+  Close : List ℤ → Course → Course  -- the end of an invocation
 
 -- the arrays of a program, and the opening words: those of `const` arrays never change
 pub record Setting : Type 0 where
@@ -43,8 +44,8 @@ computed line (Ok result) go = go result
 computed line (Err cause) go = Failed cause line
 
 -- An event that evaluates these expressions: a drain where one of them names a written array.
-abbrev pub event : {A : Type 0} → Setting → Purpose → Line → List Expr → (List ℤ → Result A Cause) → (A → Course) → Course
-event setting purpose line exprs compute go = if list_any (names_written setting.arrays) exprs then Drain purpose (λ words. computed line (compute words) go) else Scalar purpose (computed line (compute setting.words) go)
+abbrev pub event : {A : Type 0} → Setting → Purpose → List ℤ → Line → List Expr → (List ℤ → Result A Cause) → (A → Course) → Course
+event setting purpose scalars line exprs compute go = if list_any (names_written setting.arrays) exprs then Drain purpose scalars (λ words. computed line (compute words) go) else Scalar purpose scalars (computed line (compute setting.words) go)
 
 -- What an item is: the bodies that it holds, in textual order, and its events, from the number of its first body and
 -- the scalars, before what follows.
@@ -64,13 +65,13 @@ in_order (item ∷ items) = let others = in_order items in record {
 abbrev pub computing : Setting → Line → Expr → (List ℤ → List ℤ → Result (List ℤ) Cause) → Item
 computing setting line expr compute = record {
   bodies = [];
-  events = λ first scalars go. event setting Ordinary line (expr ∷ []) (compute scalars) go;
+  events = λ first scalars go. event setting Ordinary scalars line (expr ∷ []) (compute scalars) go;
 }
 
 -- the iterations of an invocation that are left, n from turn k on, and its end
-abbrev pub iterations : ℕ → ℕ → ℕ → (ℕ → List ℤ) → Course → Course
-iterations zero k body scalars_in rest = Close rest
-iterations (suc n) k body scalars_in rest = Iterate body (scalars_in k) (iterations n (suc k) body scalars_in rest)
+abbrev pub iterations : ℕ → ℕ → ℕ → (ℕ → List ℤ) → List ℤ → Course → Course
+iterations zero k body scalars_in scalars rest = Close scalars rest
+iterations (suc n) k body scalars_in scalars rest = Iterate body (scalars_in k) (iterations n (suc k) body scalars_in scalars rest)
 
 -- an arm: its test is an event of its own, then come its items or what the `if` does otherwise
 pub record Tested : Type 0 where
@@ -87,8 +88,8 @@ chosen (arm ∷ arms) other = let others = chosen arms other in record {
 
 -- the turns of a region that are left, n from turn k on, each an event, and the event of leaving it
 abbrev pub region_turns : ℕ → ℕ → (ℕ → ℤ) → ℕ → (List ℤ → (List ℤ → Course) → Course) → List ℤ → (List ℤ → Course) → Course
-region_turns zero k variable_in name items scalars go = Scalar Ordinary (go scalars)
-region_turns (suc n) k variable_in name items scalars go = Scalar Ordinary (items (with_scalar scalars name (variable_in k)) (λ after. region_turns n (suc k) variable_in name items after go))
+region_turns zero k variable_in name items scalars go = Scalar Ordinary scalars (go scalars)
+region_turns (suc n) k variable_in name items scalars go = Scalar Ordinary scalars (items (with_scalar scalars name (variable_in k)) (λ after. region_turns n (suc k) variable_in name items after go))
 
 -- a loop is an invocation where it stands among the items, and a region where it stands at depth 1
 pub record Looped : Type 0 where
@@ -117,7 +118,7 @@ item_node setting (Stmt-F.Declare line name expr) = computing setting line expr 
 item_node setting (Stmt-F.Assign line name op expr) = computing setting line expr (λ scalars words. and_then (value setting.arrays scalars words expr) (λ right. and_then (assigned (operation_of op) (scalar_at scalars name) right) (λ new. Ok (with_scalar scalars name new))))
 item_node setting (Stmt-F.Write line name place op expr) = record {
   bodies = (stmt.Write line name place op expr ∷ []) ∷ [];
-  events = λ first scalars go. Scalar Header (iterations 1 0 first (λ k. scalars) (go scalars));
+  events = λ first scalars go. Scalar Header scalars (iterations 1 0 first (λ k. scalars) scalars (go scalars));
 }
 item_node setting (Stmt-F.If arms other) = chosen (map (λ (a : Arm × Tested). a.1) arms) (items_of other)
 item_node setting (Stmt-F.Loop l) = l.1.invocation
@@ -125,18 +126,18 @@ item_node setting (Stmt-F.Loop l) = l.1.invocation
 abbrev pub tested_node : Setting → Layer_of_arm → Tested
 tested_node setting arm = let items = items_of arm.body in record {
   bodies = items.bodies;
-  events = λ first scalars otherwise go. event setting Ordinary arm.line (arm.test ∷ []) (λ words. value setting.arrays scalars words arm.test) (λ test. if is_zero test then otherwise else items.events first scalars go);
+  events = λ first scalars otherwise go. event setting Ordinary scalars arm.line (arm.test ∷ []) (λ words. value setting.arrays scalars words arm.test) (λ test. if is_zero test then otherwise else items.events first scalars go);
 }
 
 abbrev pub looped_node : Setting → Layer_of_loop → Looped
 looped_node setting l = let items = items_of l.body in record {
   invocation = record {
     bodies = map (λ (s : Stmt × Item). s.0) l.body ∷ [];
-    events = λ first scalars go. event setting Header l.line (l.low ∷ l.high ∷ []) (bounds setting.arrays l scalars) (λ b. iterations b.1 0 first (λ k. with_scalar scalars l.name (variable b.0 l.step k)) (go scalars));
+    events = λ first scalars go. event setting Header scalars l.line (l.low ∷ l.high ∷ []) (bounds setting.arrays l scalars) (λ b. iterations b.1 0 first (λ k. with_scalar scalars l.name (variable b.0 l.step k)) scalars (go scalars));
   };
   region = record {
     bodies = items.bodies;
-    events = λ first scalars go. event setting Ordinary l.line (l.low ∷ l.high ∷ []) (bounds setting.arrays l scalars) (λ b. region_turns b.1 0 (variable b.0 l.step) l.name (items.events first) scalars go);
+    events = λ first scalars go. event setting Ordinary scalars l.line (l.low ∷ l.high ∷ []) (bounds setting.arrays l scalars) (λ b. region_turns b.1 0 (variable b.0 l.step) l.name (items.events first) scalars go);
   };
 }
 

@@ -2,6 +2,7 @@ pub mod Among
 pub mod Words
 pub mod Arrays
 pub mod Value
+pub mod Locals
 pub mod Turn
 pub mod Reads
 pub mod Course

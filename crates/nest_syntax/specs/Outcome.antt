@@ -38,21 +38,21 @@ behind k (Stopped cause line words) go = TrappedAt (place_of_trap cause line k f
 abbrev pub ending_from : List ℕ → (ℕ → List ℤ → Turn) → Course → ℕ → List ℤ → Ending
 ending_from sizes turn End k words = Done words
 ending_from sizes turn (Failed cause line) k words = TrappedAt (place_of_trap cause line k true)
-ending_from sizes turn (Scalar purpose rest) k words = ending_from sizes turn rest k words
-ending_from sizes turn (Drain purpose rest) k words = ending_from sizes turn (rest words) k words
+ending_from sizes turn (Scalar purpose scalars rest) k words = ending_from sizes turn rest k words
+ending_from sizes turn (Drain purpose scalars rest) k words = ending_from sizes turn (rest words) k words
 ending_from sizes turn (Iterate body scalars rest) k words = behind k (on_words sizes (turn body scalars) words) (ending_from sizes turn rest (suc k))
-ending_from sizes turn (Close rest) k words = ending_from sizes turn rest k words
+ending_from sizes turn (Close scalars rest) k words = ending_from sizes turn rest k words
 
 -- the outcome of a program on its opening words
 abbrev pub ending : Program → List ℤ → Ending
 ending program words = let arrays = arrays_of program.decls in ending_from (sizes_of arrays) (turn_in arrays (bodies_of program)) (course_of program words) 0 words
 
--- an event of the scheduler, as it is carried out
+-- an event of the scheduler, as it is carried out: each but the last with the scalars before it
 pub data Event : Type 0 where
-  Computes : Purpose → Event
-  Drains : Purpose → Event
+  Computes : Purpose → List ℤ → Event
+  Drains : Purpose → List ℤ → Event
   Iterates : ℕ → List ℤ → Event
-  Closes : Event
+  Closes : List ℤ → Event
   Ends : Event
 
 -- the words behind a turn, where it doesn't trap
@@ -65,11 +65,11 @@ completed (Stopped cause line words) = None
 abbrev pub events_from : List ℕ → (ℕ → List ℤ → Turn) → Course → Option (List ℤ) → List Event
 events_from sizes turn End reached = Ends ∷ []
 events_from sizes turn (Failed cause line) reached = []
-events_from sizes turn (Scalar purpose rest) reached = Computes purpose ∷ events_from sizes turn rest reached
-events_from sizes turn (Drain purpose rest) None = []
-events_from sizes turn (Drain purpose rest) (Some words) = Drains purpose ∷ events_from sizes turn (rest words) (Some words)
+events_from sizes turn (Scalar purpose scalars rest) reached = Computes purpose scalars ∷ events_from sizes turn rest reached
+events_from sizes turn (Drain purpose scalars rest) None = []
+events_from sizes turn (Drain purpose scalars rest) (Some words) = Drains purpose scalars ∷ events_from sizes turn (rest words) (Some words)
 events_from sizes turn (Iterate body scalars rest) reached = Iterates body scalars ∷ events_from sizes turn rest (option_and_then (λ words. completed (on_words sizes (turn body scalars) words)) reached)
-events_from sizes turn (Close rest) reached = Closes ∷ events_from sizes turn rest reached
+events_from sizes turn (Close scalars rest) reached = Closes scalars ∷ events_from sizes turn rest reached
 
 -- the course of a program, as the list of its events
 abbrev pub events_of : Program → List ℤ → List Event
@@ -79,10 +79,7 @@ events_of program words = let arrays = arrays_of program.decls in events_from (s
 abbrev pub iterations_among : List Event → List (ℕ × List ℤ)
 iterations_among [] = []
 iterations_among (Iterates body scalars ∷ events) = (body, scalars) ∷ iterations_among events
-iterations_among (Computes purpose ∷ events) = iterations_among events
-iterations_among (Drains purpose ∷ events) = iterations_among events
-iterations_among (Closes ∷ events) = iterations_among events
-iterations_among (Ends ∷ events) = iterations_among events
+iterations_among (other ∷ events) = iterations_among events
 
 -- what iteration k of a program does, none where its course has no such iteration
 abbrev pub iteration_turn : Program → List ℤ → ℕ → Option Turn

@@ -1,10 +1,12 @@
 -- Three readings of a turn: carried out on the words, carried out on a list of the words that it reads, and the
 -- accesses that it makes on the words.
-use Rattle.std.specs.Prelude.{ℕ, ℤ, if◌then◌else◌, List, [], ◌∷◌}
+use Rattle.std.specs.Prelude.{◌≡◌, ℕ, ℤ, if◌then◌else◌, Result, Ok, Err, List, [], ◌∷◌}
 use Rattle.nest_syntax.specs.declared.names.Line.{Line}
 use Rattle.nest_syntax.specs.declared.operators.Cause.{Cause}
+use Rattle.nest_syntax.specs.declared.tree.Expr.{Expr}
 use Rattle.nest_syntax.specs.Arrays.{Array, sizes_of, is_fixed, word_number, word_at, with_word}
-use Rattle.nest_syntax.specs.Turn.{Turn, Finished, Trapped, Load, Store, Op, Go}
+use Rattle.nest_syntax.specs.Value.{value}
+use Rattle.nest_syntax.specs.Turn.{Turn, Finished, Trapped, Load, Store, Op, Go, reckoning}
 
 -- how a turn on the words ends: with new words, or with a trap and the words at that moment
 pub data Ended : Type 0 where
@@ -19,6 +21,15 @@ on_words sizes (Load array place go) words = on_words sizes (go (word_at words (
 on_words sizes (Store array place value rest) words = on_words sizes rest (with_word words (word_number sizes array place) value)
 on_words sizes (Op rest) words = on_words sizes rest words
 on_words sizes (Go rest) words = on_words sizes rest words
+
+-- a turn on the words that goes on with a result, or stops at its trap
+abbrev pub answered : List ℕ → Line → Result ℤ Cause → (ℤ → Turn) → List ℤ → Ended
+answered sizes line (Ok result) go words = on_words sizes (go result) words
+answered sizes line (Err cause) go words = Stopped cause line words
+
+-- What an expression does in a turn, carried out on words, is its value: the turn goes on with it, or stops at its trap.
+abbrev pub ReckoningsAreValues : Type 0
+ReckoningsAreValues = (arrays : List Array) (scalars words : List ℤ) (expr : Expr) (line : Line) (go : ℤ → Turn) → on_words (sizes_of arrays) (reckoning arrays expr line scalars go) words ≡ answered (sizes_of arrays) line (value arrays scalars words expr) go words
 
 -- an access to a word of a written array: its number, and the value read or written
 pub data Access : Type 0 where

@@ -1,6 +1,7 @@
 -- What one iteration does. A turn is a tree: each node is the next thing done, and behind a Load stands one subtree
 -- for each word that may be read. It is the one place where the order of evaluation, the tests of subscripts, the
--- traps with their lines, the pure operations and the points where a worker may be interrupted (Go) are said.
+-- traps with their lines, the pure operations and the points where a worker may be interrupted (Go) are said. `Value`
+-- says the order of an expression's parts without the steps, and the law `reckonings_are_values` that the two agree.
 use Rattle.std.specs.Prelude.{ℕ, zero, suc, ℤ, pos, if◌then◌else◌, Option, Some, None, Result, Ok, Err, List, [], ◌∷◌, map}
 use Rattle.nest_syntax.specs.declared.names.Line.{Line}
 use Rattle.nest_syntax.specs.declared.operators.Bin.{Bin}
@@ -17,6 +18,7 @@ use Rattle.nest_syntax.specs.declared.tree.Loop.{Loop}
 use Rattle.nest_syntax.specs.Words.{is_zero, truth, apply, apply_un, operation_of, turns, counted, variable}
 use Rattle.nest_syntax.specs.Arrays.{Array, located}
 use Rattle.nest_syntax.specs.Value.{scalar_at, with_scalar}
+use Rattle.nest_syntax.specs.Locals.{locals_of, with_zeros}
 
 pub data Turn : Type 0 where
   Finished : Turn  -- the iteration is over
@@ -118,6 +120,6 @@ effect arrays = fold-Stmt Effect Arm_effect Effect (effect_node arrays) (arm_nod
 abbrev pub loop_effect : List Array → Loop → Effect
 loop_effect arrays = fold-Loop Effect Arm_effect Effect (effect_node arrays) (arm_node arrays) (loop_node arrays)
 
--- the turn of a body: an iteration of it with these scalars, the invocation's variable among them
+-- the turn of a body: an iteration of it with these scalars, the invocation's variable among them; its locals begin with 0
 abbrev pub turn_of : List Array → List Stmt → List ℤ → Turn
-turn_of arrays body scalars = sequence (map (effect arrays) body) scalars (λ after. Finished)
+turn_of arrays body scalars = sequence (map (effect arrays) body) (with_zeros (locals_of body) scalars) (λ after. Finished)

@@ -1,5 +1,6 @@
 -- The value of an expression, from the values of the scalars (one for each name of the program) and the words of the
--- arrays. Operands are evaluated from left to right; `&&`, `||` and `?:` evaluate only what they need.
+-- arrays. Operands are evaluated from left to right; `&&`, `||` and `?:` evaluate only what they need. `Turn` says the same
+-- order step by step, and the law `reckonings_are_values` that the two agree.
 use Rattle.std.specs.Prelude.{ℕ, ℤ, pos, Bool, true, false, ◌||◌, if◌then◌else◌, Result, Ok, Err, List, slice_index_or, slice_set}
 use Rattle.std.specs.Option.{option_map_or}
 use Rattle.nest_syntax.specs.declared.operators.Bin.{Bin}
@@ -52,12 +53,11 @@ abbrev pub is_written : List Array → ℕ → Bool
 is_written arrays name = option_map_or (λ n. if is_fixed arrays n then false else true) (array_of arrays name) false
 
 abbrev pub names_written_node : List Array → Expr-F Bool → Bool
-names_written_node arrays (Expr-F.Number n) = false
-names_written_node arrays (Expr-F.Scalar name) = false
 names_written_node arrays (Expr-F.Word name place) = is_written arrays name || place
 names_written_node arrays (Expr-F.Unary operation part) = part
 names_written_node arrays (Expr-F.Binary operation left right) = left || right
 names_written_node arrays (Expr-F.Choice test first second) = test || (first || second)
+names_written_node arrays other = false
 
 -- whether an expression names a written array, one that isn't `const`
 abbrev pub names_written : List Array → Expr → Bool

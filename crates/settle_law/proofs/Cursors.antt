@@ -16,10 +16,10 @@ use Rattle.settle_law.proofs.Nests.{well}
 
 iterations_append : (xs ys : List Passed) → iterations_among (xs ++ ys) ≡ iterations_among xs ++ iterations_among ys
 iterations_append [] ys = refl
-iterations_append (Computes purpose ∷ xs) ys = iterations_append xs ys
-iterations_append (Drains purpose ∷ xs) ys = iterations_append xs ys
+iterations_append (Computes purpose scalars ∷ xs) ys = iterations_append xs ys
+iterations_append (Drains purpose scalars ∷ xs) ys = iterations_append xs ys
 iterations_append (Iterates body scalars ∷ xs) ys = ap (λ l. (body, scalars) ∷ l) (iterations_append xs ys)
-iterations_append (Closes ∷ xs) ys = iterations_append xs ys
+iterations_append (Closes scalars ∷ xs) ys = iterations_append xs ys
 iterations_append (Ends ∷ xs) ys = iterations_append xs ys
 
 at_seam : {A : Type 0} (xs : List A) (y : A) (ys : List A) → slice_get (xs ++ y ∷ ys) (length xs) ≡ Some y
@@ -35,10 +35,10 @@ failed (course.Failed cause line) trap e = from trap e
     from : (trap : Trap) → trap_of (course.Failed cause line) ≡ Some trap → course.Failed cause line ≡ course.Failed trap.cause trap.line
     from trap e = let s : trap_of (course.Failed cause line) ≡ Some trap = e in ap (λ o. failed_with (option_map_or (λ (t : Trap). t) o trap)) s
 failed course.End trap e = absurd (let no : None ≡ Some trap = e in cc)
-failed (course.Scalar purpose rest) trap e = absurd (let no : None ≡ Some trap = e in cc)
-failed (course.Drain purpose rest) trap e = absurd (let no : None ≡ Some trap = e in cc)
+failed (course.Scalar purpose scalars rest) trap e = absurd (let no : None ≡ Some trap = e in cc)
+failed (course.Drain purpose scalars rest) trap e = absurd (let no : None ≡ Some trap = e in cc)
 failed (course.Iterate body scalars rest) trap e = absurd (let no : None ≡ Some trap = e in cc)
-failed (course.Close rest) trap e = absurd (let no : None ≡ Some trap = e in cc)
+failed (course.Close scalars rest) trap e = absurd (let no : None ≡ Some trap = e in cc)
 
 module _ {B C : Type 0} (nest : Nest) (tree : B → Cut) (event : C → Event B C) (passed : List Passed) (next : ℕ) where
   -- one event more that is no iteration
@@ -91,20 +91,26 @@ module _ {B C : Type 0} (nest : Nest) (tree : B → Cut) (event : C → Event B 
   at_left : (cursor : C) (left : Course) → Follows nest tree event cursor left → length (iterations_among passed) ≡ next → passed ++ events_left nest left (reached nest next) ≡ events nest → ((words : List ℤ) → reached nest next ≡ Some words → ending_from nest.sizes nest.turn left next words ≡ outcome nest) → AtEvent nest tree event passed next (event cursor)
   at_left cursor course.End is counts all ends = subst (AtEvent nest tree event passed next) (sym is) (at_end counts all ends)
   at_left cursor (course.Failed cause line) is counts all ends = elim is [ ]
-  at_left cursor (course.Scalar purpose rest) (after, is, follows) counts all ends = subst (AtEvent nest tree event passed next) (sym is) (onward (Computes purpose) rest after refl counts all ends follows (trap_of rest) refl)
-  at_left cursor (course.Drain purpose rest) (trap, after, is, follows) counts all ends = subst (AtEvent nest tree event passed next) (sym is) (λ words e.
-      onward (Drains purpose) (rest words) (after words) refl counts
-      (subst (λ o. passed ++ Drains purpose ∷ events_left nest (rest words) o ≡ events nest) (sym e) (subst (λ o. passed ++ events_left nest (course.Drain purpose rest) o ≡ events nest) e all))
-      (λ w f. let both : Some words ≡ Some w = sym e ∙ f in let same : words ≡ w = cc in subst (λ x. ending_from nest.sizes nest.turn (rest words) next x ≡ outcome nest) same (ends words e))
-      (follows words).1 (trap words) (sym (follows words).0))
+  at_left cursor (course.Scalar purpose scalars rest) (after, is, follows) counts all ends = subst (AtEvent nest tree event passed next) (sym is) (scalars, onward (Computes purpose scalars) rest after refl counts all ends follows (trap_of rest) refl)
+  at_left cursor (course.Drain purpose scalars rest) (trap, after, is, follows) counts all ends = subst (AtEvent nest tree event passed next) (sym is) (
+    scalars,
+    λ words e.
+        onward (Drains purpose scalars) (rest words) (after words) refl counts
+        (subst (λ o. passed ++ Drains purpose scalars ∷ events_left nest (rest words) o ≡ events nest) (sym e) (subst (λ o. passed ++ events_left nest (course.Drain purpose scalars rest) o ≡ events nest) e all))
+        (λ w f. let both : Some words ≡ Some w = sym e ∙ f in let same : words ≡ w = cc in subst (λ x. ending_from nest.sizes nest.turn (rest words) next x ≡ outcome nest) same (ends words e))
+        (follows words).1 (trap words) (sym (follows words).0),
+  )
   at_left cursor (course.Iterate body scalars rest) (b, after, is, same, follows) counts all ends = subst (AtEvent nest tree event passed next) (sym is) (at_iteration body scalars rest b after counts all ends same follows)
-  at_left cursor (course.Close rest) (after, is, follows) counts all ends = subst (AtEvent nest tree event passed next) (sym is) (record {
-    left = rest;
-    follows = follows;
-    counts = counts_same Closes refl counts;
-    all_events = more_passed Closes (events_left nest rest (reached nest next)) all;
-    ends = ends;
-  })
+  at_left cursor (course.Close scalars rest) (after, is, follows) counts all ends = subst (AtEvent nest tree event passed next) (sym is) (
+    scalars,
+    record {
+      left = rest;
+      follows = follows;
+      counts = counts_same (Closes scalars) refl counts;
+      all_events = more_passed (Closes scalars) (events_left nest rest (reached nest next)) all;
+      ends = ends;
+    },
+  )
 
   pub at_event : (cursor : C) → Behind nest tree event passed next cursor → AtEvent nest tree event passed next (event cursor)
   at_event cursor behind = at_left cursor behind.left behind.follows behind.counts behind.all_events behind.ends
@@ -133,12 +139,12 @@ module _ {B C : Type 0} (nest : Nest) (tree : B → Cut) (event : C → Event B 
   all_of : (left : Course) (cursor : C) → Follows nest tree event cursor left → AllOf left
   all_of course.End cursor is words k i at = absurd (let no : None ≡ Some i = at in cc)
   all_of (course.Failed cause line) cursor is words k i at = elim is [ ]
-  all_of (course.Scalar purpose rest) cursor (after, is, follows) words k i at = behind_all_of rest (λ none. all_of rest after (follows none)) words k i at
-  all_of (course.Drain purpose rest) cursor (trap, after, is, follows) None k i at = absurd (let no : None ≡ Some i = at in cc)
-  all_of (course.Drain purpose rest) cursor (trap, after, is, follows) (Some words) k i at = behind_all_of (rest words) (λ none. all_of (rest words) (after words) ((follows words).1 none)) (Some words) k i at
+  all_of (course.Scalar purpose scalars rest) cursor (after, is, follows) words k i at = behind_all_of rest (λ none. all_of rest after (follows none)) words k i at
+  all_of (course.Drain purpose scalars rest) cursor (trap, after, is, follows) None k i at = absurd (let no : None ≡ Some i = at in cc)
+  all_of (course.Drain purpose scalars rest) cursor (trap, after, is, follows) (Some words) k i at = behind_all_of (rest words) (λ none. all_of (rest words) (after words) ((follows words).1 none)) (Some words) k i at
   all_of (course.Iterate body scalars rest) cursor (b, after, is, same, follows) words zero i at = let s : Some (body, scalars) ≡ Some i = at in let t : (body, scalars) ≡ i = cc in subst Q t (given b (body, scalars) same)
   all_of (course.Iterate body scalars rest) cursor (b, after, is, same, follows) words (suc k) i at = all_of rest after follows (option_and_then (λ w. completed (on_words nest.sizes (nest.turn body scalars) w)) words) k i at
-  all_of (course.Close rest) cursor (after, is, follows) words k i at = all_of rest after follows words k i at
+  all_of (course.Close scalars rest) cursor (after, is, follows) words k i at = all_of rest after follows words k i at
 
 pub followed_keeps : {B C P : Type 0} (sys : System P) (nest : Nest) (tree : B → Cut) (entry : B → P) (event : C → Event B C) (cursor : C) → ((b : B) → Realises sys (tree b) (entry b)) → Follows nest tree event cursor nest.course → NestKeepsFixed sys.fixed nest
 followed_keeps sys nest tree entry event cursor begins follows k i at = all_of nest tree event (λ j. KeepsFixed nest.sizes sys.fixed (nest.turn j.0 j.1)) (λ b j same. keeps-from_realises sys nest.sizes 0 (nest.turn j.0 j.1) (entry b) (subst (λ c. Realises sys c (entry b)) same (begins b))) nest.course cursor follows (Some nest.opening) k i at

@@ -134,8 +134,8 @@ module _ (sizes : List ℕ) (turn_at : ℕ → List ℤ → Turn) where
   trapped_at : (left : Course) (k n : ℕ) (opening words : List ℤ) (i : ℕ × List ℤ) (cause : Cause) (line : Line) (last : List ℤ) → walked (its left (Some opening)) (Some opening) n ≡ Some words → slice_get (its left (Some opening)) n ≡ Some i → step i words ≡ Stopped cause line last → ending_from sizes turn_at left k opening ≡ TrappedAt (place_of_trap cause line (k + n) false)
   trapped_at End k n opening words i cause line last e at ends = absurd (let no : None ≡ Some i = at in cc)
   trapped_at (Failed why place) k n opening words i cause line last e at ends = absurd (let no : None ≡ Some i = at in cc)
-  trapped_at (Scalar purpose rest) k n opening words i cause line last e at ends = trapped_at rest k n opening words i cause line last e at ends
-  trapped_at (Drain purpose rest) k n opening words i cause line last e at ends = trapped_at (rest opening) k n opening words i cause line last e at ends
+  trapped_at (Scalar purpose scalars rest) k n opening words i cause line last e at ends = trapped_at rest k n opening words i cause line last e at ends
+  trapped_at (Drain purpose scalars rest) k n opening words i cause line last e at ends = trapped_at (rest opening) k n opening words i cause line last e at ends
   trapped_at (Iterate body scalars rest) k zero opening words i cause line last e at ends =
       let here : Some opening ≡ Some words = e in
       let mine : Some (body, scalars) ≡ Some i = at in
@@ -152,7 +152,7 @@ module _ (sizes : List ℕ) (turn_at : ℕ → List ℤ → Turn) where
       by_end : (ended : Ended) → step (body, scalars) opening ≡ ended → ((behind : List ℤ) → completed (step (body, scalars) opening) ≡ Some behind → ending_from sizes turn_at rest (suc k) behind ≡ TrappedAt (place_of_trap cause line (suc k + n) false)) → ending_from sizes turn_at (Iterate body scalars rest) k opening ≡ TrappedAt (place_of_trap cause line (k + suc n) false)
       by_end (Completed behind) is more = ap (λ x. outcome_of.behind k x (ending_from sizes turn_at rest (suc k))) is ∙ more behind (ap completed is) ∙ ap (λ m. TrappedAt (place_of_trap cause line m false)) (omega arith)
       by_end (Stopped why place behind) is more = absurd (let none : completed (step (body, scalars) opening) ≡ None = ap completed is in let gone : walked (its rest None) None n ≡ Some words = subst (λ o. walked (its rest o) o n ≡ Some words) none later in let no : None ≡ Some words = sym (walked_none (its rest None) n) ∙ gone in cc)
-  trapped_at (Close rest) k n opening words i cause line last e at ends = trapped_at rest k n opening words i cause line last e at ends
+  trapped_at (Close scalars rest) k n opening words i cause line last e at ends = trapped_at rest k n opening words i cause line last e at ends
 
 reached_walked : (nest : Nest) (n : ℕ) → reached nest n ≡ walked nest.sizes nest.turn (iterations_among (events nest)) (Some nest.opening) n
 reached_walked nest zero = refl

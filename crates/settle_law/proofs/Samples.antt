@@ -115,9 +115,9 @@ abbrev small : Course → Nest
 small course = record { sizes = 1 ∷ []; turn = λ body scalars. turn.Store 0 0 (pos 3) turn.Finished; course = course; opening = pos 0 ∷ [] }
 
 abbrev two_iterations : Course
-two_iterations = course.Scalar Header (course.Iterate 0 [] (course.Iterate 0 [] (course.Close course.End)))
+two_iterations = course.Scalar Header [] (course.Iterate 0 [] (course.Iterate 0 [] (course.Close [] course.End)))
 
-small-events : events (small two_iterations) ≡ Computes Header ∷ Iterates 0 [] ∷ Iterates 0 [] ∷ Closes ∷ Ends ∷ []
+small-events : events (small two_iterations) ≡ Computes Header [] ∷ Iterates 0 [] ∷ Iterates 0 [] ∷ Closes [] ∷ Ends ∷ []
 small-events = refl
 
 small-reaches : reached (small two_iterations) 1 ≡ Some (pos 3 ∷ [])
@@ -138,5 +138,5 @@ small-follows : Follows (small two_iterations) (λ b. cut.Writes 0 (pos 3) cut.F
 small-follows = (1, refl, λ none. (0, 2, refl, refl, (0, 3, refl, refl, (4, refl, refl))))
 
 -- an event that traps ends the nest
-trapping-outcome : (why : Cause) (line : Line) → outcome (small (course.Scalar Ordinary (course.Failed why line))) ≡ TrappedAt (place_of_trap why line 0 true)
+trapping-outcome : (why : Cause) (line : Line) → outcome (small (course.Scalar Ordinary [] (course.Failed why line))) ≡ TrappedAt (place_of_trap why line 0 true)
 trapping-outcome why line = refl

@@ -77,20 +77,20 @@ family_of fixed nest k = option_map_or (λ (i : ℕ × List ℤ). plain fixed (c
 abbrev pub trap_of : Course → Option Trap
 trap_of (course.Failed cause line) = Some (record { cause = cause; line = line })
 trap_of course.End = None
-trap_of (course.Scalar purpose rest) = None
-trap_of (course.Drain purpose rest) = None
+trap_of (course.Scalar purpose scalars rest) = None
+trap_of (course.Drain purpose scalars rest) = None
 trap_of (course.Iterate body scalars rest) = None
-trap_of (course.Close rest) = None
+trap_of (course.Close scalars rest) = None
 
 -- A cursor follows a course: it stands at the first event of it, and the cursor behind the event follows the rest, where
 -- the event doesn't trap. At an iteration, `tree` tells the cut turn of what the cursor gives.
 abbrev pub Follows : {B C : Type 0} → Nest → (B → Cut) → (C → Event B C) → C → Course → Type 0
 Follows nest tree event cursor course.End = event cursor ≡ End
 Follows nest tree event cursor (course.Failed cause line) = ⊥
-Follows {B} {C} nest tree event cursor (course.Scalar purpose rest) = (next : C) × (event cursor ≡ Scalar purpose (trap_of rest) next) × (trap_of rest ≡ None → Follows nest tree event next rest)
-Follows {B} {C} nest tree event cursor (course.Drain purpose rest) = (trap : List ℤ → Option Trap) × (next : List ℤ → C) × (event cursor ≡ Drain purpose trap next) × ((words : List ℤ) → (trap words ≡ trap_of (rest words)) × (trap_of (rest words) ≡ None → Follows nest tree event (next words) (rest words)))
+Follows {B} {C} nest tree event cursor (course.Scalar purpose scalars rest) = (next : C) × (event cursor ≡ Scalar purpose (trap_of rest) next) × (trap_of rest ≡ None → Follows nest tree event next rest)
+Follows {B} {C} nest tree event cursor (course.Drain purpose scalars rest) = (trap : List ℤ → Option Trap) × (next : List ℤ → C) × (event cursor ≡ Drain purpose trap next) × ((words : List ℤ) → (trap words ≡ trap_of (rest words)) × (trap_of (rest words) ≡ None → Follows nest tree event (next words) (rest words)))
 Follows {B} {C} nest tree event cursor (course.Iterate body scalars rest) = (b : B) × (next : C) × (event cursor ≡ Iterate b next) × (tree b ≡ cut_at nest (body, scalars)) × Follows nest tree event next rest
-Follows {B} {C} nest tree event cursor (course.Close rest) = (next : C) × (event cursor ≡ Close next) × Follows nest tree event next rest
+Follows {B} {C} nest tree event cursor (course.Close scalars rest) = (next : C) × (event cursor ≡ Close next) × Follows nest tree event next rest
 
 -- What of a nest lies behind a cursor that has passed `next` iterations: it follows a course such that the events passed
 -- and those that are left are the events of the nest, and from the words that textual order reaches there, what is left
@@ -117,10 +117,10 @@ module _ {B C : Type 0} (nest : Nest) (tree : B → Cut) (event : C → Event B 
 
   abbrev pub AtEvent : Event B C → Type 0
   AtEvent End = (events nest ≡ passed ++ Ends ∷ []) × ((k : ℕ) → next ≤ k → iteration_at nest k ≡ None) × ((words : List ℤ) → reached nest next ≡ Some words → outcome nest ≡ Done words)
-  AtEvent (Scalar purpose trap after) = Onward (Computes purpose) trap after
-  AtEvent (Drain purpose trap after) = (words : List ℤ) → reached nest next ≡ Some words → Onward (Drains purpose) (trap words) (after words)
+  AtEvent (Scalar purpose trap after) = (scalars : List ℤ) × Onward (Computes purpose scalars) trap after
+  AtEvent (Drain purpose trap after) = (scalars : List ℤ) × ((words : List ℤ) → reached nest next ≡ Some words → Onward (Drains purpose scalars) (trap words) (after words))
   AtEvent (Iterate b after) = (i : ℕ × List ℤ) × (iteration_at nest next ≡ Some i) × (tree b ≡ cut_at nest i) × Behind nest tree event (passed ++ Iterates i.0 i.1 ∷ []) (suc next) after
-  AtEvent (Close after) = Onward Closes None after
+  AtEvent (Close after) = (scalars : List ℤ) × Onward (Closes scalars) None after
 
 -- Each event of a cursor with this behind it says so. And a cursor that follows the course of the nest has all of it
 -- before it.

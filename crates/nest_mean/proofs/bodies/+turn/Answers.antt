@@ -5,7 +5,7 @@ use Rattle.nest_syntax.specs.declared.tree.Stmt.TheFolds.{the_lemmas}
 use Rattle.nest_syntax.specs.Words.{is_zero, variable}
 use Rattle.nest_syntax.specs.Value.{with_scalar}
 use Rattle.word_store.specs.Memory.{Memory}
-use Rattle.nest_mean.proofs.Names.{changed_in_loop-is}
+use Rattle.nest_syntax.proofs.Equations.{given_in_loop-is}
 use Rattle.nest_mean.proofs.Parts.{all_left, block_runs, block_stops, block_ends, turns_begin, turn_runs, turn_stops, turns_end, runs_declare}
 use Rattle.nest_mean.proofs.Statements.{all_arms_left, arm_passes, arm_stops, arm_runs, arm_traps, arms_end, loop_stops_low, loop_stops_high, loop_traps, loop_runs, write_stops_place, write_stops_value, write_runs, if_stops, if_takes, if_other}
 use Rattle.nest_mean.proofs.bodies.+turn.Goals as goal
@@ -129,7 +129,7 @@ run_turns-returns-in_err-run_block t c =
     let value : to_z w64 (of_z w64 c.value_in_turn.result) ≡ c.value_in_turn.result = to_z-of_z w64 c.value_in_turn.result (search rules) in
     let start : c.set.new.self ≡ with_scalar c.loop-k.scalars c.args.inner.now.name (variable c.args.low c.args.inner.now.step c.loop-k.k) =
     c.set.ensures ∙ ap (with_scalar c.loop-k.scalars c.args.inner.now.name) (value ∙ simp low at c.value_in_turn.ensures) in
-    rw (p.1, p.2, changed_in_loop-is c.args.inner.now)
+    rw (p.1, p.2, given_in_loop-is true c.args.inner.now)
     (turn_stops _ _ _ _ _ _ _ _ _ _ _ c.loop-k.k c.loop-k-test.true (simp low at c.loop-k.invariant) _ (rw (c.as_slice.ensures, start) at c.in_err-run_block.ensures))
 
 pub run_turns-loop-k-preserved : goal.run_turns-loop-k-preserved
@@ -144,4 +144,4 @@ run_turns-loop-k-preserved t c =
 pub run_turns-returns : goal.run_turns-returns
 run_turns-returns t c =
     let low : to_z w64 (of_z w64 c.args.low) ≡ c.args.low = to_z-of_z w64 c.args.low c.ranges.low in
-    rw (changed_in_loop-is c.args.inner.now) (turns_end _ _ _ _ _ c.loop-k.k _ _ _ _ c.loop-k-test.false (simp low at c.loop-k.invariant))
+    rw (given_in_loop-is true c.args.inner.now) (turns_end _ _ _ _ _ c.loop-k.k _ _ _ _ c.loop-k-test.false (simp low at c.loop-k.invariant))

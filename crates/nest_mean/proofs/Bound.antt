@@ -1,0 +1,228 @@
+-- How many iterations may come on any way through a course: at most 2^24 for a body in each turn of its region, and at
+-- most 2^24 turns.
+use Rattle.std.proofs.Common.{◌≡◌, ℕ, zero, suc, ◌+◌, ◌-◌, ◌*◌, ◌^◌, ◌≤◌, ℤ, Bool, true, false, nat_le, if◌then◌else◌, Option, Some, None, Result, Ok, Err, List, [], ◌∷◌, ◌++◌, map, length, refl, sym, ap, ◌∙◌, subst, arith, length-append}
+use Rattle.std.specs.Option.{option_and_then}
+use Rattle.std.specs.List.{list_any}
+use Rattle.std.proofs.Math.Nat.{mul-le-mul_left}
+use Rattle.std.proofs.lemmas.Bool.{leb-true}
+use Rattle.nest_syntax.specs.declared.names.Line.{Line}
+use Rattle.nest_syntax.specs.declared.operators.Cause.{Cause}
+use Rattle.nest_syntax.specs.declared.operators.Cause.TheVariants as cause
+use Rattle.nest_syntax.specs.declared.tree.Expr.{Expr}
+use Rattle.nest_syntax.specs.declared.tree.Arm.{Arm, roll-Arm}
+use Rattle.nest_syntax.specs.declared.tree.Loop.{Loop, roll-Loop}
+use Rattle.nest_syntax.specs.declared.tree.Stmt.{Stmt, roll-Stmt}
+use Rattle.nest_syntax.specs.declared.tree.Stmt.TheOpen.{Stmt-F, Arm-F, Loop-F}
+use Rattle.nest_syntax.specs.declared.tree.Stmt.TheFolds.{map-Stmt, map-Arm, map-Loop, ind-Loop, para-roll-Stmt, para-roll-Arm, para-roll-Loop}
+use Rattle.nest_syntax.specs.Words.{is_zero, operation_of, assigned, turns, counted, variable, most_turns}
+use Rattle.nest_syntax.specs.Arrays.{Array, arrays_of, sizes_of}
+use Rattle.nest_syntax.specs.Value.{value, and_then, names_written, scalar_at, with_scalar}
+use Rattle.nest_syntax.specs.Turn.{Turn}
+use Rattle.nest_syntax.specs.Reads.{on_words}
+use Rattle.nest_syntax.specs.Course.{Setting, Course, Purpose, Ordinary, Header, End, Failed, Scalar, Drain, Iterate, Close, Item, Tested, Looped, Layer_of_loop, computed, event, iterations, region_turns, in_order, chosen, bounds, item_node, tested_node, looped_node, item_of, tested_of, looped_of, region_of, setting_of, bodies_of, whole_of, opening_scalars}
+use Rattle.nest_syntax.specs.Outcome.{turn_in, completed, events_from, iterations_among}
+use Rattle.nest_mean.specs.Nest.{Nest, CanRun}
+use Rattle.nest_mean.specs.Bound.{HasFewIterations}
+use Rattle.nest_mean.proofs.Sameness.{same_regions}
+
+-- at most so many iterations, whatever the drains read
+abbrev AtMost : ℕ → Course → Type 0
+AtMost n End = Unit {0}
+AtMost n (Failed cause line) = Unit {0}
+AtMost n (Scalar purpose scalars rest) = AtMost n rest
+AtMost n (Drain purpose scalars rest) = (words : List ℤ) → AtMost n (rest words)
+AtMost n (Iterate body scalars rest) = (1 ≤ n) × AtMost (n - 1) rest
+AtMost n (Close scalars rest) = AtMost n rest
+
+more : (few many : ℕ) (course : Course) → few ≤ many → AtMost few course → AtMost many course
+more few many End le h = tt
+more few many (Failed cause line) le h = tt
+more few many (Scalar purpose scalars rest) le h = more few many rest le h
+more few many (Drain purpose scalars rest) le h = λ words. more few many (rest words) le (h words)
+more few many (Iterate body scalars rest) le h = (omega (arith, h.0), more (few - 1) (many - 1) rest (omega arith) h.1)
+more few many (Close scalars rest) le h = more few many rest le h
+
+among : (sizes : List ℕ) (turn : ℕ → List ℤ → Turn) (course : Course) (n : ℕ) (reached : Option (List ℤ)) → AtMost n course → length (iterations_among (events_from sizes turn course reached)) ≤ n
+among sizes turn End n reached h = omega arith
+among sizes turn (Failed cause line) n reached h = omega arith
+among sizes turn (Scalar purpose scalars rest) n reached h = among sizes turn rest n reached h
+among sizes turn (Drain purpose scalars rest) n None h = omega arith
+among sizes turn (Drain purpose scalars rest) n (Some words) h = among sizes turn (rest words) n (Some words) (h words)
+among sizes turn (Iterate body scalars rest) n reached h =
+    let others = among sizes turn rest (n - 1) (option_and_then (λ words. completed (on_words sizes (turn body scalars) words)) reached) h.1 in
+    omega (arith, h.0, others)
+among sizes turn (Close scalars rest) n reached h = among sizes turn rest n reached h
+
+-- an item has at most so many iterations for each of its bodies, besides those of what follows
+abbrev Few : ℕ → Item → Type 0
+Few most item = (first : ℕ) (scalars : List ℤ) (go : List ℤ → Course) (n : ℕ) → ((after : List ℤ) → AtMost n (go after)) → AtMost (most * length item.bodies + n) (item.events first scalars go)
+
+-- and so has an arm, besides those of what follows it or is done otherwise
+abbrev FewTested : Tested → Type 0
+FewTested arm = (first : ℕ) (scalars : List ℤ) (otherwise : Course) (go : List ℤ → Course) (n all : ℕ) → 16777216 * length arm.bodies + n ≤ all → AtMost all otherwise → ((after : List ℤ) → AtMost n (go after)) → AtMost all (arm.events first scalars otherwise go)
+
+-- one item before others
+few_before : (most : ℕ) (item others : Item) → Few most item → Few most others
+    → Few most (record { bodies = item.bodies ++ others.bodies; events = λ first scalars go. item.events first scalars (λ after. others.events (first + length item.bodies) after go) })
+few_before most item others here rest first scalars go n h =
+    let product : most * length (item.bodies ++ others.bodies) ≡ most * (length item.bodies + length others.bodies) = ap (λ k. most * k) (length-append item.bodies others.bodies) in
+    more (most * length item.bodies + (most * length others.bodies + n)) (most * length (item.bodies ++ others.bodies) + n) (item.events first scalars (λ after. others.events (first + length item.bodies) after go)) (omega (arith, product))
+    (here first scalars (λ after. others.events (first + length item.bodies) after go) (most * length others.bodies + n) (λ after. rest (first + length item.bodies) after go n h))
+
+few_none : (most : ℕ) → Few most (in_order [])
+few_none most first scalars go n h = more n (most * 0 + n) (go scalars) (omega arith) (h scalars)
+
+-- an event, where each result that it may have leads to few
+module _ {A : Type 0} (line : Line) (compute : List ℤ → Result A Cause) (go : A → Course) (n : ℕ) (h : (words : List ℤ) (a : A) → compute words ≡ Ok a → AtMost n (go a)) where
+  few_computed : (words : List ℤ) (result : Result A Cause) → compute words ≡ result → AtMost n (computed line result go)
+  few_computed words (Ok a) is = h words a is
+  few_computed words (Err cause) is = tt
+
+  few_event : (setting : Setting) (purpose : Purpose) (scalars : List ℤ) (exprs : List Expr) → AtMost n (event setting purpose scalars line exprs compute go)
+  few_event setting purpose scalars exprs = by_kind (list_any (names_written setting.arrays) exprs)
+    where
+      by_kind : (drains : Bool) → AtMost n (if drains then Drain purpose scalars (λ words. computed line (compute words) go) else Scalar purpose scalars (computed line (compute setting.words) go))
+      by_kind true = λ words. few_computed words (compute words) refl
+      by_kind false = few_computed setting.words (compute setting.words) refl
+
+few_iterations : (count k body : ℕ) (scalars_in : ℕ → List ℤ) (scalars : List ℤ) (rest : Course) (n : ℕ) → AtMost n rest → AtMost (count + n) (iterations count k body scalars_in scalars rest)
+few_iterations zero k body scalars_in scalars rest n h = more n (0 + n) rest (omega arith) h
+few_iterations (suc count) k body scalars_in scalars rest n h = (omega arith, more (count + n) (suc count + n - 1) (iterations count (suc k) body scalars_in scalars rest) (omega arith) (few_iterations count (suc k) body scalars_in scalars rest n h))
+
+few_turns : (items : Item) → Few 16777216 items → (count k : ℕ) (variable_in : ℕ → ℤ) (name first : ℕ) (scalars : List ℤ) (go : List ℤ → Course) (n : ℕ) → ((after : List ℤ) → AtMost n (go after))
+    → AtMost (count * (16777216 * length items.bodies) + n) (region_turns count k variable_in name (items.events first) scalars go)
+few_turns items few zero k variable_in name first scalars go n h = more n (0 * (16777216 * length items.bodies) + n) (go scalars) (omega arith) (h scalars)
+few_turns items few (suc count) k variable_in name first scalars go n h =
+    more (16777216 * length items.bodies + (count * (16777216 * length items.bodies) + n)) (suc count * (16777216 * length items.bodies) + n) (items.events first (with_scalar scalars name (variable_in k)) (λ after. region_turns count (suc k) variable_in name (items.events first) after go)) (omega arith)
+    (few first (with_scalar scalars name (variable_in k)) (λ after. region_turns count (suc k) variable_in name (items.events first) after go) (count * (16777216 * length items.bodies) + n)
+    (λ after. few_turns items few count (suc k) variable_in name first after go n h))
+
+-- a loop that doesn't trap has few turns
+few_counted : (low : ℤ) (n : ℕ) (b : ℤ × ℕ) → and_then (counted n) (λ count. Ok (low, count)) ≡ Ok b → b.1 ≤ 16777216
+few_counted low n b is = by_test (nat_le n most_turns) refl is
+  where
+    by_test : (test : Bool) → nat_le n most_turns ≡ test → and_then (if test then Ok n else Err cause.Loop) (λ count. Ok (low, count)) ≡ Ok b → b.1 ≤ 16777216
+    by_test true within e = let same : (low, n) ≡ b = cc in subst (λ (p : ℤ × ℕ). p.1 ≤ 16777216) same (leb-true n most_turns within)
+    by_test false over e = absurd (cc)
+
+few_bounds : (arrays : List Array) (l : Layer_of_loop) (scalars words : List ℤ) (b : ℤ × ℕ) → bounds arrays l scalars words ≡ Ok b → b.1 ≤ 16777216
+few_bounds arrays l scalars words b is = by_values (value arrays scalars words l.low) (value arrays scalars words l.high) is
+  where
+    by_values : (low high : Result ℤ Cause) → and_then low (λ from. and_then high (λ to. and_then (counted (turns from to l.step l.through)) (λ count. Ok (from, count)))) ≡ Ok b → b.1 ≤ 16777216
+    by_values (Err cause) high e = absurd (cc)
+    by_values (Ok from) (Err cause) e = absurd (cc)
+    by_values (Ok from) (Ok to) e = few_counted from (turns from to l.step l.through) b e
+
+module _ (setting : Setting) where
+  abbrev FewItem : Stmt → Type 0
+  FewItem s = Few 16777216 (item_of setting s)
+
+  abbrev FewArm : Arm → Type 0
+  FewArm r = FewTested (tested_of setting r)
+
+  abbrev FewLoop : Loop → Type 0
+  FewLoop l = Few 16777216 (looped_of setting l).invocation × Few 281474976710656 (looped_of setting l).region
+
+  abbrev A_stmt : Type 0
+  A_stmt = (s : Stmt) × FewItem s
+
+  abbrev An_arm : Type 0
+  An_arm = (r : Arm) × FewArm r
+
+  abbrev A_loop : Type 0
+  A_loop = (l : Loop) × FewLoop l
+
+  abbrev items_at : List Stmt → Item
+  items_at stmts = in_order (map (λ (p : Stmt × Item). p.1) (map (λ q. (q, item_of setting q)) stmts))
+
+  abbrev arms_at : List Arm → Item → Item
+  arms_at arms other = chosen (map (λ (p : Arm × Tested). p.1) (map (λ q. (q, tested_of setting q)) arms)) other
+
+  few_items : (stmts : List A_stmt) → Few 16777216 (items_at (map (λ q. q.0) stmts))
+  few_items [] = few_none 16777216
+  few_items (q ∷ qs) = few_before 16777216 (item_of setting q.0) (items_at (map (λ p. p.0) qs)) q.1 (few_items qs)
+
+  few_arms : (arms : List An_arm) (other : Item) → Few 16777216 other → Few 16777216 (arms_at (map (λ q. q.0) arms) other)
+  few_arms [] other h = h
+  few_arms (q ∷ qs) other h = λ first scalars go n rest.
+      let arm = tested_of setting q.0 in
+      let others = arms_at (map (λ p. p.0) qs) other in
+      let longer = length-append arm.bodies others.bodies in
+      q.1 first scalars (others.events (first + length arm.bodies) scalars go) go n (16777216 * length (arm.bodies ++ others.bodies) + n) (omega (arith, longer))
+      (more (16777216 * length others.bodies + n) (16777216 * length (arm.bodies ++ others.bodies) + n) (others.events (first + length arm.bodies) scalars go) (omega (arith, longer)) (few_arms qs other h (first + length arm.bodies) scalars go n rest))
+      rest
+
+  few_assignment : (line : Line) (expr : Expr) (compute : List ℤ → List ℤ → Result (List ℤ) Cause) → Few 16777216 (record { bodies = []; events = λ first scalars go. event setting Ordinary scalars line (expr ∷ []) (compute scalars) go })
+  few_assignment line expr compute first scalars go n h = few_event line (compute scalars) go (16777216 * 0 + n) (λ words a is. more n (16777216 * 0 + n) (go a) (omega arith) (h a)) setting Ordinary scalars (expr ∷ [])
+
+  abbrev node_of : Stmt-F Stmt Arm Loop → Item
+  node_of x = item_node setting (map-Stmt Stmt Arm Loop (Stmt × Item) (Arm × Tested) (Loop × Looped) (λ q. (q, item_of setting q)) (λ q. (q, tested_of setting q)) (λ q. (q, looped_of setting q)) x)
+
+  layer : (y : Stmt-F A_stmt An_arm A_loop) → Few 16777216 (node_of (map-Stmt A_stmt An_arm A_loop Stmt Arm Loop (λ q. q.0) (λ q. q.0) (λ q. q.0) y))
+  layer (Stmt-F.Declare line name e) = few_assignment line e (λ scalars words. and_then (value setting.arrays scalars words e) (λ new. Ok (with_scalar scalars name new)))
+  layer (Stmt-F.Assign line name o e) = few_assignment line e (λ scalars words. and_then (value setting.arrays scalars words e) (λ right. and_then (assigned (operation_of o) (scalar_at scalars name) right) (λ new. Ok (with_scalar scalars name new))))
+  layer (Stmt-F.Write line name place o e) = λ first scalars go n h. more (1 + n) (16777216 * 1 + n) (iterations 1 0 first (λ k. scalars) scalars (go scalars)) (omega arith) (few_iterations 1 0 first (λ k. scalars) scalars (go scalars) n (h scalars))
+  layer (Stmt-F.If arms other) = few_arms arms (items_at (map (λ q. q.0) other)) (few_items other)
+  layer (Stmt-F.Loop l) = l.1.0
+
+  stmt_step : (x : Stmt-F Stmt Arm Loop) (y : Stmt-F A_stmt An_arm A_loop) → map-Stmt A_stmt An_arm A_loop Stmt Arm Loop (λ q. q.0) (λ q. q.0) (λ q. q.0) y ≡ x → FewItem (roll-Stmt x)
+  stmt_step x y is =
+      subst (Few 16777216) (sym (para-roll-Stmt Item Tested Looped (item_node setting) (tested_node setting) (looped_node setting) x))
+      (subst (λ z. Few 16777216 (node_of z)) is (layer y))
+
+  abbrev layer_of_arm : Arm-F Stmt Arm Loop → Arm-F (Stmt × Item) (Arm × Tested) (Loop × Looped)
+  layer_of_arm x = map-Arm Stmt Arm Loop (Stmt × Item) (Arm × Tested) (Loop × Looped) (λ q. (q, item_of setting q)) (λ q. (q, tested_of setting q)) (λ q. (q, looped_of setting q)) x
+
+  few_arm : (x : Arm-F Stmt Arm Loop) → Few 16777216 (items_at x.body) → FewTested (tested_node setting (layer_of_arm x))
+  few_arm x items first scalars otherwise go n all within other h =
+      few_event x.line (λ words. value setting.arrays scalars words x.test) (λ test. if is_zero test then otherwise else (items_at x.body).events first scalars go) all
+      (λ words test is. by_test (is_zero test)) setting Ordinary scalars (x.test ∷ [])
+    where
+      by_test : (zero : Bool) → AtMost all (if zero then otherwise else (items_at x.body).events first scalars go)
+      by_test true = other
+      by_test false = more (16777216 * length (items_at x.body).bodies + n) all ((items_at x.body).events first scalars go) within (items first scalars go n h)
+
+  arm_step : (x : Arm-F Stmt Arm Loop) (y : Arm-F A_stmt An_arm A_loop) → map-Arm A_stmt An_arm A_loop Stmt Arm Loop (λ q. q.0) (λ q. q.0) (λ q. q.0) y ≡ x → FewArm (roll-Arm x)
+  arm_step x y is =
+      subst FewTested (sym (para-roll-Arm Item Tested Looped (item_node setting) (tested_node setting) (looped_node setting) x))
+      (few_arm x (subst (λ (z : Arm-F Stmt Arm Loop). Few 16777216 (items_at z.body)) is (few_items y.body)))
+
+  abbrev layer_of_loop : Loop-F Stmt Arm Loop → Layer_of_loop
+  layer_of_loop x = map-Loop Stmt Arm Loop (Stmt × Item) (Arm × Tested) (Loop × Looped) (λ q. (q, item_of setting q)) (λ q. (q, tested_of setting q)) (λ q. (q, looped_of setting q)) x
+
+  few_loop : (x : Loop-F Stmt Arm Loop) → Few 16777216 (items_at x.body) → Few 16777216 (looped_node setting (layer_of_loop x)).invocation × Few 281474976710656 (looped_node setting (layer_of_loop x)).region
+  few_loop x items = (invocation, region)
+    where
+      invocation : Few 16777216 (looped_node setting (layer_of_loop x)).invocation
+      invocation first scalars go n h = few_event x.line (bounds setting.arrays (layer_of_loop x) scalars) (λ b. iterations b.1 0 first (λ k. with_scalar scalars x.name (variable b.0 x.step k)) scalars (go scalars)) (16777216 * 1 + n)
+          (λ words b is. let few = few_bounds setting.arrays (layer_of_loop x) scalars words b is in
+          more (b.1 + n) (16777216 * 1 + n) (iterations b.1 0 first (λ k. with_scalar scalars x.name (variable b.0 x.step k)) scalars (go scalars)) (omega (arith, few)) (few_iterations b.1 0 first (λ k. with_scalar scalars x.name (variable b.0 x.step k)) scalars (go scalars) n (h scalars)))
+          setting Header scalars (x.low ∷ x.high ∷ [])
+
+      region : Few 281474976710656 (looped_node setting (layer_of_loop x)).region
+      region first scalars go n h = few_event x.line (bounds setting.arrays (layer_of_loop x) scalars) (λ b. region_turns b.1 0 (variable b.0 x.step) x.name ((items_at x.body).events first) scalars go) (281474976710656 * length (items_at x.body).bodies + n)
+          (λ words b is. let few = mul-le-mul_left (16777216 * length (items_at x.body).bodies) (few_bounds setting.arrays (layer_of_loop x) scalars words b is) in
+          more (b.1 * (16777216 * length (items_at x.body).bodies) + n) (281474976710656 * length (items_at x.body).bodies + n) (region_turns b.1 0 (variable b.0 x.step) x.name ((items_at x.body).events first) scalars go) (omega (arith, few)) (few_turns (items_at x.body) items b.1 0 (variable b.0 x.step) x.name first scalars go n h))
+          setting Ordinary scalars (x.low ∷ x.high ∷ [])
+
+  loop_step : (x : Loop-F Stmt Arm Loop) (y : Loop-F A_stmt An_arm A_loop) → map-Loop A_stmt An_arm A_loop Stmt Arm Loop (λ q. q.0) (λ q. q.0) (λ q. q.0) y ≡ x → FewLoop (roll-Loop x)
+  loop_step x y is =
+      subst (λ (l : Looped). Few 16777216 l.invocation × Few 281474976710656 l.region) (sym (para-roll-Loop Item Tested Looped (item_node setting) (tested_node setting) (looped_node setting) x))
+      (few_loop x (subst (λ (z : Loop-F Stmt Arm Loop). Few 16777216 (items_at z.body)) is (few_items y.body)))
+
+  few_looped : (l : Loop) → FewLoop l
+  few_looped = ind-Loop FewItem FewArm FewLoop stmt_step arm_step loop_step
+
+  few_regions : (regions : List Loop) → Few 281474976710656 (in_order (map (region_of setting) regions))
+  few_regions [] = few_none 281474976710656
+  few_regions (l ∷ ls) = few_before 281474976710656 (region_of setting l) (in_order (map (region_of setting) ls)) (few_looped l).1 (few_regions ls)
+
+pub has_few : HasFewIterations
+has_few nest runs =
+    let setting = setting_of nest.program nest.opening.words in
+    let whole = whole_of nest.program nest.opening.words in
+    let same : length (bodies_of nest.program) ≡ length whole.bodies = ap length (same_regions (setting_of nest.program []) setting nest.program.regions) in
+    let within : 281474976710656 * length whole.bodies + 0 ≤ 2 ^ 60 = omega (arith, same, runs.few_bodies) in
+    let course = whole.events 0 (opening_scalars nest.program) (λ after. End) in
+    among (sizes_of (arrays_of nest.program.decls)) (turn_in (arrays_of nest.program.decls) (bodies_of nest.program)) course (2 ^ 60) (Some nest.opening.words)
+    (more (281474976710656 * length whole.bodies + 0) (2 ^ 60) course within (few_regions setting nest.program.regions 0 (opening_scalars nest.program) (λ after. End) 0 (λ after. tt)))
