@@ -1,10 +1,10 @@
 ghost use Rattle.std.specs.Prelude.{◌≡◌, ◌||◌, ℕ, List, map, IfOk, OnOk};
 ghost use Rattle.nest_syntax.specs.Arrays.{Array};
-ghost use Rattle.lowest_line.specs.Lowest.{lower_if, lower_of, lowest, lines_where};
+ghost use Rattle.lowest_line.specs.Lowest.{IsLowest, IsLowestOf, lower_if, lower_of, lowest, lines_where, Lowers};
 ghost use Rattle.nest_syntax.specs.Among.{is_among};
 ghost use Rattle.data_local.specs.Written.{TellsWritten};
-ghost use Rattle.data_local.specs.Bounds.{line_of, changes, changes_one, changes_one_in_arms, changes_in_loop, changes_its_bound, lines_of_changed_bounds, HasDataBoundIn, HasDataBound, IsLowest};
-ghost use Rattle.data_local.specs.Breaches.{HasSameNames, is_data, has_data_bound, Lowers};
+ghost use Rattle.data_local.specs.Bounds.{line_of, changes, changes_one, changes_one_in_arms, changes_in_loop, changes_its_bound, lines_of_changed_bounds, HasDataBoundIn, HasDataBound};
+ghost use Rattle.data_local.specs.Breaches.{HasSameNames, is_data, has_data_bound};
 
 use crate::locals::{DataLocals, data_locals_of};
 use crate::loops::{invocations, loops_in, loops_of};
@@ -24,7 +24,7 @@ pub struct BoundBreaches {
 
 /// The lowest lines of a program that break the rules on bounds.
 pub fn bound_breaches(alloc: Global, program: &Program) -> Result<BoundBreaches, NoMemory>
-    ensures high { IfOk result (λ breaches. breaches.high ≡ lowest (lines_of_changed_bounds program.now)) }
+    ensures high { IfOk result (λ breaches. IsLowestOf (lines_of_changed_bounds program.now) breaches.high) }
     ensures inner { IfOk result (λ breaches. IsLowest (HasDataBound program.now) breaches.inner) }
 {
     let high = lowest_changed_bound(alloc, program)?;

@@ -53,28 +53,28 @@ wrong_lengths program = lengths_outside program.decls ++ sum_passes 0 program.de
 
 -- the line of a part
 abbrev pub part_line : Part → Line
-part_line (ALoop line step levels) = line
+part_line (ALoop line step at) = line
 part_line (AnExpression line e) = line
 
--- the loops and expressions of a program; loops may have four levels
+-- the loops and expressions of a program, whose regions are loops at depth 1
 abbrev pub parts_of : Program → List Part
-parts_of program = all_at (map parts_in_loop program.regions) 4
+parts_of program = all_at (map parts_in_loop program.regions) 1
 
 abbrev pub has_wrong_step : Part → Bool
-has_wrong_step (ALoop line step levels) = is_outside 65536 step
+has_wrong_step (ALoop line step at) = is_outside 65536 step
 has_wrong_step (AnExpression line e) = false
 
 -- A step is 1 to 65,536.
 abbrev pub wrong_steps : Program → List Line
 wrong_steps program = lines_where part_line has_wrong_step (parts_of program)
 
-abbrev pub has_no_level : Part → Bool
-has_no_level (ALoop line step levels) = levels == 0
-has_no_level (AnExpression line e) = false
+abbrev pub is_deep_loop : Part → Bool
+is_deep_loop (ALoop line step at) = nat_lt 4 at
+is_deep_loop (AnExpression line e) = false
 
 -- Loops stand at depth 1 to 4.
 abbrev pub deep_loops : Program → List Line
-deep_loops program = lines_where part_line has_no_level (parts_of program)
+deep_loops program = lines_where part_line is_deep_loop (parts_of program)
 
 abbrev pub has_many_items : Loop → Bool
 has_many_items region = nat_lt 64 (length (items_of region.body))
@@ -95,7 +95,7 @@ abbrev pub large_bodies : Program → List Line
 large_bodies program = lines_where line_of is_large_body (flat_map (λ (region : Loop). invocations_in (items_of region.body)) program.regions)
 
 abbrev pub is_deep : Part → Bool
-is_deep (ALoop line step levels) = false
+is_deep (ALoop line step at) = false
 is_deep (AnExpression line e) = nat_lt 16 (depth e)
 
 -- An expression has depth at most 16, and a program has at most 32 names of scheduler scalars.

@@ -6,8 +6,9 @@ use Rattle.nest_syntax.specs.Arrays.{Array, arrays_of}
 use Rattle.data_local.specs.Written.{TellsWritten}
 use Rattle.data_local.specs.Loops.{invocations}
 use Rattle.data_local.specs.Bounds.{HasDataBound}
-use Rattle.data_local.specs.Breaches.{Lowers}
-use Rattle.data_local.proofs.Lowests.{Among, lowers_none, lowers_more, lowest_of}
+use Rattle.lowest_line.specs.Lowest.{Lowers}
+use Rattle.data_local.proofs.Lowests.{Among, lowers_none, lowers_more}
+use Rattle.lowest_line.proofs.Lowers.{lowest_of}
 use Rattle.data_local.proofs.bounds.lowest_data_bound.Goals as goal
 
 pub loop-one-init : goal.loop-one-init

@@ -1,9 +1,9 @@
 use Rattle.std.proofs.Common.{None, map, take}
 use Rattle.nest_syntax.specs.declared.tree.Loop.{Loop}
 use Rattle.nest_syntax.specs.Arrays.{arrays_of}
-use Rattle.data_local.specs.DataLocals.{IsOne}
+use Rattle.nest_syntax.specs.Among.{IsOne}
 use Rattle.data_local.specs.Bounds.{HasDataBoundIn}
-use Rattle.data_local.specs.Breaches.{Lowers}
+use Rattle.lowest_line.specs.Lowest.{Lowers}
 use Rattle.data_local.proofs.bounds.lowest_data_bound.Given as goal
 
 abbrev pub invariant-loop-one : goal.invariant-loop-one
