@@ -111,9 +111,9 @@ body_lowers arrays body locals loops old new are all is = lowers_by (HasDataBoun
           ],
         )
 
--- the lines of the invocations so far
-abbrev pub Among : List Array → List Loop → Line → Type 0
-Among arrays invoked line = (one : Loop) × IsOne invoked one × HasDataBoundIn arrays one.body line
+-- the lines of the bodies so far
+abbrev pub Among : List Array → List (List Stmt) → Line → Type 0
+Among arrays bodies line = (one : List Stmt) × IsOne bodies one × HasDataBoundIn arrays one line
 
 pub lowers_none : (arrays : List Array) → Lowers (Among arrays []) None None
 lowers_none arrays = record { reached = λ line h. h.1; kept = λ line e. absurd cc; from = λ line e. inl e }
@@ -122,25 +122,25 @@ lower_than : (found : Option Line) (lowest line : Line) → IsAtMost found lowes
 lower_than None lowest line h le = absurd h
 lower_than (Some one) lowest line h le = let most : one.0 ≤ lowest.0 = h in omega arith
 
-pub lowers_more : (arrays : List Array) (loops : List (Bor Loop)) (i : ℕ) → i < length loops → (here : Bor Loop) → here ≡ get_or loops i here → (found found' : Option Line)
-    → Lowers (Among arrays (map (λ x. x.now) (take i loops))) None found → Lowers (HasDataBoundIn arrays here.now.body) found found' → Lowers (Among arrays (map (λ x. x.now) (take (i + 1) loops))) None found'
-lowers_more arrays loops i there here is found found' before more = record {
-  reached = λ line h. reached_by line h.0 h.2 (one_parts (map (λ (x : Bor Loop). x.now) (take i loops)) (here.now ∷ []) h.0 (subst (λ ls. IsOne ls h.0) all h.1));
+pub lowers_more : (arrays : List Array) (bodies : List (Bor (List Stmt))) (i : ℕ) → i < length bodies → (here : Bor (List Stmt)) → here ≡ get_or bodies i here → (found found' : Option Line)
+    → Lowers (Among arrays (map (λ x. x.now) (take i bodies))) None found → Lowers (HasDataBoundIn arrays here.now) found found' → Lowers (Among arrays (map (λ x. x.now) (take (i + 1) bodies))) None found'
+lowers_more arrays bodies i there here is found found' before more = record {
+  reached = λ line h. reached_by line h.0 h.2 (one_parts (map (λ (x : Bor (List Stmt)). x.now) (take i bodies)) (here.now ∷ []) h.0 (subst (λ ls. IsOne ls h.0) all h.1));
   kept = λ line e. absurd cc;
   from = λ line e. elim (more.from line e) [
-    | inl was ↦ elim (before.from line was) [ inl none ↦ inl none | inr one ↦ inr (one.0, subst (λ ls. IsOne ls one.0) (sym all) (one_left (map (λ (x : Bor Loop). x.now) (take i loops)) (here.now ∷ []) one.0 one.1), one.2) ]
-    | inr bound ↦ inr (here.now, subst (λ ls. IsOne ls here.now) (sym all) (one_right (map (λ (x : Bor Loop). x.now) (take i loops)) (here.now ∷ []) here.now (inl refl)), bound)
+    | inl was ↦ elim (before.from line was) [ inl none ↦ inl none | inr one ↦ inr (one.0, subst (λ ls. IsOne ls one.0) (sym all) (one_left (map (λ (x : Bor (List Stmt)). x.now) (take i bodies)) (here.now ∷ []) one.0 one.1), one.2) ]
+    | inr bound ↦ inr (here.now, subst (λ ls. IsOne ls here.now) (sym all) (one_right (map (λ (x : Bor (List Stmt)). x.now) (take i bodies)) (here.now ∷ []) here.now (inl refl)), bound)
   ];
 }
   where
-    all : map (λ (x : Bor Loop). x.now) (take (i + 1) loops) ≡ map (λ (x : Bor Loop). x.now) (take i loops) ++ here.now ∷ []
-    all = ap (map (λ (x : Bor Loop). x.now)) (take_more loops i here there ∙ ap (λ x. take i loops ++ x ∷ []) (sym is)) ∙ map-append (λ (x : Bor Loop). x.now) (take i loops) (here ∷ [])
+    all : map (λ (x : Bor (List Stmt)). x.now) (take (i + 1) bodies) ≡ map (λ (x : Bor (List Stmt)). x.now) (take i bodies) ++ here.now ∷ []
+    all = ap (map (λ (x : Bor (List Stmt)). x.now)) (take_more bodies i here there ∙ ap (λ x. take i bodies ++ x ∷ []) (sym is)) ∙ map-append (λ (x : Bor (List Stmt)). x.now) (take i bodies) (here ∷ [])
 
     at_most : (o : Option Line) (line : Line) → found ≡ o → IsAtMost o line → IsAtMost found' line
     at_most None line e h = absurd h
     at_most (Some lowest) line e h = lower_than found' lowest line (more.kept lowest e) h
 
-    reached_by : (line : Line) (one : Loop) → HasDataBoundIn arrays one.body line → IsOne (map (λ (x : Bor Loop). x.now) (take i loops)) one ⊎ IsOne (here.now ∷ []) one → IsAtMost found' line
+    reached_by : (line : Line) (one : List Stmt) → HasDataBoundIn arrays one line → IsOne (map (λ (x : Bor (List Stmt)). x.now) (take i bodies)) one ⊎ IsOne (here.now ∷ []) one → IsAtMost found' line
     reached_by line one bound (inl was) = at_most found line refl (before.reached line (one, was, bound))
-    reached_by line one bound (inr (inl same)) = more.reached line (subst (λ (l : Loop). HasDataBoundIn arrays l.body line) same bound)
+    reached_by line one bound (inr (inl same)) = more.reached line (subst (λ (b : List Stmt). HasDataBoundIn arrays b line) same bound)
     reached_by line one bound (inr (inr none)) = absurd none

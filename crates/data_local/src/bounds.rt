@@ -6,8 +6,9 @@ ghost use Rattle.data_local.specs.Written.{TellsWritten};
 ghost use Rattle.data_local.specs.Bounds.{line_of, changes, changes_one, changes_one_in_arms, changes_in_loop, changes_its_bound, lines_of_changed_bounds, HasDataBoundIn, HasDataBound};
 ghost use Rattle.data_local.specs.Breaches.{HasSameNames, is_data, has_data_bound};
 
+use crate::bodies::bodies_of;
 use crate::locals::{DataLocals, data_locals_of};
-use crate::loops::{invocations, loops_in, loops_of};
+use crate::loops::{loops_in, loops_of};
 use crate::names::NamedIn;
 use crate::written::WrittenArrays;
 use lowest_line::Lowest;
@@ -116,10 +117,10 @@ fn lowest_data_bound(alloc: Global, program: &Program) -> Result<Option<Line>, N
     ensures { IfOk result (λ found. IsLowest (HasDataBound program.now) found) }
 {
     let written = WrittenArrays::new(alloc, program.decls.as_slice())?;
-    let invoked = invocations(alloc, program)?;
+    let bodies = bodies_of(alloc, program)?;
     let mut found = Lowest::new();
-    for one in &invoked {
-        note_data_bounds(alloc, one.body.as_slice(), &written, &mut found)?;
+    for body in &bodies {
+        note_data_bounds(alloc, body, &written, &mut found)?;
     }
     Ok(found.line())
 }

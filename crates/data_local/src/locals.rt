@@ -89,7 +89,8 @@ pub(crate) fn data_locals_of(
 {
     let rows = rows_of(alloc, body)?;
     let graph = graph_of(alloc, &rows, written)?;
-    let nodes = reached(alloc, &graph.starts, graph.edges)?;
+    let edges = graph.edges;
+    let nodes = reached(alloc, &graph.starts, edges)?;
     let names = reached_names(alloc, &rows, &nodes)?;
     Ok(DataLocals::of(names))
 }

@@ -12,7 +12,8 @@ use Rattle.nest_syntax.specs.Among.{IsOne}
 use Rattle.nest_scope.specs.Rules.{lines_redeclared, lines_unknown, lines_const_written, lines_loop_variable_assigned, lines_scheduler_scalar_assigned}
 use Rattle.data_local.specs.Bounds.{lines_of_changed_bounds}
 use Rattle.nest_syntax.specs.Arrays.{arrays_of, array_names}
-use Rattle.nest_check.specs.Declarations.{Declaration, first_of_each, lines_of, names_of}
+use Rattle.nest_syntax.specs.Shape.{Declaration}
+use Rattle.nest_check.specs.Declarations.{first_of_each, lines_of, names_of}
 use Rattle.nest_check.specs.Entries.{scheduler_scalars}
 use Rattle.nest_check.specs.Rules.{first_behind, array_lines, region_lines, part_line, is_deep, parts_of, beyond_64, wrong_lengths, wrong_steps, deep_loops, large_regions, large_bodies, deep_expressions}
 use Rattle.nest_check.specs.Kept.{KeepsRules}

@@ -7,8 +7,8 @@ use Rattle.nest_check.specs.declared.parts.Breaches.{Breaches}
 use Rattle.nest_check.specs.declared.entries.Tally.{Tally}
 use Rattle.nest_check.specs.declared.items.Sizes.{Sizes}
 use Rattle.nest_check.specs.Through.{through}
-use Rattle.nest_check.specs.Declarations.{Declaration, with_declaration}
-use Rattle.nest_check.specs.Entries.{Entry, Plain, Declares, Invokes, items_of}
+use Rattle.nest_syntax.specs.Shape.{Declaration, Entry, Plain, Declares, Invokes, items_of}
+use Rattle.nest_check.specs.Declarations.{with_declaration}
 use Rattle.nest_check.specs.Parts.{Part}
 use Rattle.nest_check.specs.Rules.{part_line, has_wrong_step, is_deep_loop, is_deep, is_large_body}
 
@@ -36,12 +36,12 @@ counted tally = record { room = tally.room - 1; names = tally.names }
 abbrev pub entered : ℕ → Tally → Entry → Tally
 entered most tally Plain = counted tally
 entered most tally (Declares d) = record { room = tally.room - 1; names = added most tally.names d }
-entered most tally (Invokes l) = counted tally
+entered most tally (Invokes b) = counted tally
 
 abbrev pub body_noted : Option Line → Entry → Option Line
 body_noted found Plain = found
 body_noted found (Declares d) = found
-body_noted found (Invokes l) = lower_if (is_large_body l) found l.line
+body_noted found (Invokes b) = lower_if (is_large_body b) found b.line
 
 -- one item more
 abbrev pub passed : Sizes → Entry → Sizes

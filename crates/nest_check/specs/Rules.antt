@@ -1,6 +1,6 @@
 -- Rules of the checker. Each is the list of the lines that break it; the program keeps it where that list is empty.
 use Rattle.std.specs.Prelude.{ℕ, ◌+◌, Bool, false, ◌||◌, if◌then◌else◌, nat_lt, ◌==◌, List, [], ◌∷◌, ◌++◌, map, take, drop, length}
-use Rattle.std.specs.List.{flat_map}
+use Rattle.std.specs.Option.{option_map_or}
 use Rattle.nest_syntax.specs.declared.names.Line.{Line}
 use Rattle.nest_syntax.specs.declared.tree.Decl.{Decl}
 use Rattle.nest_syntax.specs.declared.tree.Decl.TheVariants as decl
@@ -8,8 +8,9 @@ use Rattle.nest_syntax.specs.declared.tree.Loop.{Loop}
 use Rattle.nest_syntax.specs.declared.tree.Program.{Program}
 use Rattle.lowest_line.specs.Lowest.{lines_where}
 use Rattle.data_local.specs.Bounds.{line_of}
-use Rattle.nest_check.specs.Declarations.{Declaration, first_of_each, lines_of}
-use Rattle.nest_check.specs.Entries.{items_of, statements_of, declarations_in, invocations_in, scheduler_scalars}
+use Rattle.nest_syntax.specs.Shape.{Declaration, Body, items_of, declarations_in, invoked_by}
+use Rattle.nest_check.specs.Declarations.{first_of_each, lines_of}
+use Rattle.nest_check.specs.Entries.{statements_of, scheduler_scalars}
 use Rattle.nest_check.specs.Parts.{Part, ALoop, AnExpression, depth, all_at, parts_in_loop}
 
 -- the first behind so many lines, where there are more
@@ -83,16 +84,23 @@ has_many_items region = nat_lt 64 (length (items_of region.body))
 abbrev pub large_regions : Program → List Line
 large_regions program = lines_where line_of has_many_items program.regions
 
--- the locals of an invocation, its loop's variable among them: the first declaration of each name
-abbrev pub locals_of : Loop → List Declaration
-locals_of l = first_of_each ((l.name, l.line) ∷ declarations_in (statements_of l.body))
+-- the variable of the loop that invokes a body, where one does
+abbrev pub variable_of : Body → List Declaration
+variable_of body = option_map_or (λ (l : Loop). (l.name, l.line) ∷ []) body.header []
 
-abbrev pub is_large_body : Loop → Bool
-is_large_body l = nat_lt 1024 (length (statements_of l.body)) || nat_lt 16 (length (locals_of l))
+-- the locals of a body, the variable of its loop among them: the first declaration of each name
+abbrev pub locals_of : Body → List Declaration
+locals_of body = first_of_each (variable_of body ++ declarations_in (statements_of body.stmts))
+
+abbrev pub is_large_body : Body → Bool
+is_large_body body = nat_lt 1024 (length (statements_of body.stmts)) || nat_lt 16 (length (locals_of body))
+
+abbrev pub line_of_body : Body → Line
+line_of_body body = body.line
 
 -- A body has at most 1,024 statements and at most 16 names of locals.
 abbrev pub large_bodies : Program → List Line
-large_bodies program = lines_where line_of is_large_body (flat_map (λ (region : Loop). invocations_in (items_of region.body)) program.regions)
+large_bodies program = lines_where line_of_body is_large_body (invoked_by program)
 
 abbrev pub is_deep : Part → Bool
 is_deep (ALoop line step at) = false

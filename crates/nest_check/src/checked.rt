@@ -3,7 +3,7 @@ ghost use Rattle.nest_syntax.specs.Named.{IsWellNamed};
 ghost use Rattle.nest_syntax.specs.Arrays.{arrays_of, sizes_of, array_names, array_of};
 ghost use Rattle.nest_check.specs.Declarations.{first_of_each};
 ghost use Rattle.nest_check.specs.Entries.{scheduler_scalars};
-ghost use Rattle.nest_syntax.specs.Course.{bodies_of};
+ghost use Rattle.nest_syntax.specs.Shape.{bodies_of};
 ghost use Rattle.data_local.specs.DataLocals.{IsDataLocal};
 ghost use Rattle.data_local.specs.Bodies.{body_numbered};
 ghost use Rattle.nest_check.specs.Kept.{KeepsRules};

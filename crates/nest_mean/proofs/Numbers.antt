@@ -77,7 +77,7 @@ if_bodies arms other = ap (λ (t : Item). t.bodies) (item-if bare arms other ∙
 
 -- the bodies of a program are those of its regions
 pub program_bodies : (program : Program) → bodies_of program ≡ flat_map bodies_in_region program.regions
-program_bodies program = same_regions (setting_of program []) bare program.regions ∙ in_order-bodies (region_of bare) program.regions
+program_bodies program = sym (regions_same bare program.regions) ∙ in_order-bodies (region_of bare) program.regions
 
 stands_at : (bodies : List (List Stmt)) (n : ℕ) (body : List Stmt) → at_number bodies n ≡ Ok body → body_at bodies n ≡ body
 stands_at [] n body is = cc

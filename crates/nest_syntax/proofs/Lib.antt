@@ -1,3 +1,4 @@
 pub mod Equations
 pub mod Places
 pub mod Reckoned
+pub mod Shapes

@@ -4,6 +4,7 @@ pub mod Arrays
 pub mod Value
 pub mod Turn
 pub mod Reads
+pub mod Shape
 pub mod Course
 pub mod Outcome
 pub mod Named
