@@ -1,6 +1,5 @@
 -- A text says one thing, and so does an input.
-use Rattle.std.proofs.Common.{◌≡◌, ℕ, ◌<◌, ◌≤◌, true, false, leb, ◌⊎◌, inl, inr, Option, Some, None, Result, Ok, Err, List, refl, sym, ap, ◌∙◌, subst, arith}
-use Rattle.std.proofs.lemmas.Bool.Decides.{leb_tells}
+use Rattle.std.proofs.Common.{◌≡◌, ℕ, Option, Some, None, Result, Ok, Err, List, sym, ap, ◌∙◌, subst}
 use Rattle.nest_syntax.specs.declared.names.Line.{Line}
 use Rattle.nest_syntax.specs.declared.tree.Program.{Program}
 use Rattle.nest_lex.specs.declared.token.Spot.{Spot}
@@ -11,9 +10,8 @@ use Rattle.nest_lex.proofs.OneAnswer.{same_tokens, same_fault, no_fault}
 use Rattle.nest_lex.proofs.OneDivision.{one_division}
 use Rattle.nest_parse.specs.Grammar.{Derives, IsFaultAt}
 use Rattle.nest_parse.proofs.Unique.{unique}
-use Rattle.lowest_line.specs.Lowest.{IsLowest}
-use Rattle.lowest_line.proofs.Lowers.{one_lowest}
-use Rattle.nest_check.specs.Broken.{IsBroken, BreaksRule}
+use Rattle.nest_check.specs.Broken.{IsBroken}
+use Rattle.nest_check.proofs.OneJudgement.{one_broken}
 use Rattle.nest_input.specs.declared.refused.Refusal.{Refusal}
 use Rattle.nest_input.specs.declared.refused.Refusal.TheVariants as refusal
 use Rattle.word_store.specs.Memory.{Memory}
@@ -21,21 +19,6 @@ use Rattle.nest_syntax.specs.Arrays.{arrays_of}
 use Rattle.nest_data.specs.Data.{data_of}
 use Rattle.nest_input.specs.Input.{IsNest, no_tokens, no_program, no_rules, a_nest, SaysNest, SaysWords, token_refusal, spot_at, nest_in, data_in, words_said}
 use Rattle.nest_input.proofs.OneFault.{one_fault}
-
--- what is broken is one rule with one line, or nothing
-pub one_broken : (program : Program) (found other : Option (ℕ × Line)) → IsBroken program found → IsBroken program other → found ≡ other
-one_broken program None None is is' = refl
-one_broken program None (Some (rule, line)) is is' = absurd (is rule line is'.0.0)
-one_broken program (Some (rule, line)) None is is' = absurd (is' rule line is.0.0)
-one_broken program (Some (rule, line)) (Some (rule', line')) is is' = by (leb_tells rule rule') (leb_tells rule' rule)
-  where
-    by : ((leb rule rule' ≡ true) × (rule ≤ rule')) ⊎ ((leb rule rule' ≡ false) × (rule' < rule)) → ((leb rule' rule ≡ true) × (rule' ≤ rule)) ⊎ ((leb rule' rule ≡ false) × (rule < rule')) → Some (rule, line) ≡ Some (rule', line')
-    by (inr less) other = absurd (is.1 rule' line' less.1 is'.0.0)
-    by (inl most) (inr less) = absurd (is'.1 rule line less.1 is.0.0)
-    by (inl most) (inl least) =
-        let same : rule ≡ rule' = omega (arith, most.1, least.1) in
-        let lowest : Some line ≡ Some line' = one_lowest (BreaksRule program rule') (Some line) (Some line') (subst (λ r. IsLowest (BreaksRule program r) (Some line)) same is.0) is'.0 in
-        cc
 
 some_none : {A : Type 0} (a : A) → Some a ≡ None → ⊥
 some_none a e = cc
