@@ -3,7 +3,7 @@ use Rattle.std.proofs.Common.{◌≡◌, ℕ, ◌+◌, ◌*◌, ◌^◌, ◌<◌
 use Rattle.nest_syntax.specs.declared.tree.Loop.{Loop}
 use Rattle.nest_syntax.specs.declared.tree.Program.{Program}
 use Rattle.nest_syntax.specs.Arrays.{arrays_of}
-use Rattle.nest_syntax.specs.Course.{Item, in_order, region_of, setting_of, bodies_of, opening_scalars, End}
+use Rattle.nest_syntax.specs.Course.{Item, in_order, region_of, bodies_of, opening_scalars, End}
 use Rattle.word_store.specs.Memory.{Memory}
 use Rattle.nest_syntax.specs.declared.place.Place.{Place}
 use Rattle.nest_mean.specs.declared.outcomes.Outcome.TheVariants as outcomes

@@ -2,3 +2,4 @@ pub mod Equations
 pub mod Places
 pub mod Reckoned
 pub mod Shapes
+pub mod Inductions

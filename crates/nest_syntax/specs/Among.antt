@@ -10,3 +10,8 @@ is_among numbers number = list_any (λ other. number == other) numbers
 abbrev pub IsOne : {A : Type 0} → List A → A → Type 0
 IsOne [] one = ⊥
 IsOne (first ∷ others) one = (one ≡ first) ⊎ IsOne others one
+
+-- that each value of a list has a property
+abbrev pub Each : {A : Type 0} → (A → Type 0) → List A → Type 0
+Each P [] = Unit {0}
+Each P (x ∷ xs) = P x × Each P xs
