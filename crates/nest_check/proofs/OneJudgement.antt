@@ -31,9 +31,28 @@ unbroken {lines} none line one = let P : List Line → Type 0 = λ ls. IsOne ls 
 pub none_broken : (program : Program) → KeepsRules program → IsBroken program None
 none_broken program kept =
     let none : Option Line = None in
-    let are : AreLowest (rules_on program) (none ∷ none ∷ none ∷ none ∷ none ∷ none ∷ none ∷ none ∷ none ∷ none ∷ none ∷ none ∷ none ∷ none ∷ []) =
-    (unbroken kept.few, (unbroken kept.declared_once, (unbroken kept.known, (unbroken kept.lengths, (unbroken kept.constant, (unbroken kept.steps, (unbroken kept.levels,
-    (unbroken kept.variables, (unbroken kept.scheduled, (unbroken kept.bounds, (kept.inner, (unbroken kept.items, (unbroken kept.bodies, (unbroken kept.depths, tt)))))))))))))) in
+    let are : AreLowest (rules_on program) (none ∷ none ∷ none ∷ none ∷ none ∷ none ∷ none ∷ none ∷ none ∷ none ∷ none ∷ none ∷ none ∷ none ∷ []) = (
+      unbroken kept.few,
+      (
+        unbroken kept.declared_once,
+        (
+          unbroken kept.known,
+          (
+            unbroken kept.lengths,
+            (
+              unbroken kept.constant,
+              (
+                unbroken kept.steps,
+                (
+                  unbroken kept.levels,
+                  (unbroken kept.variables, (unbroken kept.scheduled, (unbroken kept.bounds, (kept.inner, (unbroken kept.items, (unbroken kept.bodies, (unbroken kept.depths, tt))))))),
+                ),
+              ),
+            ),
+          ),
+        ),
+      ),
+    ) in
     broken_is program _ are
 
 pub never_both : (program : Program) (rule : ℕ) (line : Line) → IsBroken program (Some (rule, line)) → KeepsRules program → ⊥

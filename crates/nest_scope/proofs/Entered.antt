@@ -57,9 +57,9 @@ invoked-append (Invokes b ∷ xs) ys = ap (λ bodies. b ∷ bodies) (invoked-app
 abbrev IsInvoked : Stmt → Type 0
 IsInvoked s = (scope : Scope) → map (λ (e : Entered). e.body) (entered_by s scope) ≡ invoked_in (items s)
 
-two_parts : (xs ys : List Entered) (as bs : List Entry) → map (λ (e : Entered). e.body) xs ≡ invoked_in as → map (λ (e : Entered). e.body) ys ≡ invoked_in bs → map (λ (e : Entered). e.body) (xs ++ ys) ≡ invoked_in (as ++ bs)
-two_parts xs ys as bs first second =
-    map-append (λ (e : Entered). e.body) xs ys ∙ ap (λ l. l ++ map (λ (e : Entered). e.body) ys) first ∙ ap (λ l. invoked_in as ++ l) second ∙ sym (invoked-append as bs)
+two_parts : (xs ys : List Entered) (front back : List Entry) → map (λ (e : Entered). e.body) xs ≡ invoked_in front → map (λ (e : Entered). e.body) ys ≡ invoked_in back → map (λ (e : Entered). e.body) (xs ++ ys) ≡ invoked_in (front ++ back)
+two_parts xs ys front back first second =
+    map-append (λ (e : Entered). e.body) xs ys ∙ ap (λ l. l ++ map (λ (e : Entered). e.body) ys) first ∙ ap (λ l. invoked_in front ++ l) second ∙ sym (invoked-append front back)
 
 block_invoked : (stmts : List Stmt) → Each IsInvoked stmts → (scope : Scope) → map (λ (e : Entered). e.body) (entered_in stmts scope) ≡ invoked_in (items_of stmts)
 block_invoked [] each scope = refl
@@ -80,9 +80,9 @@ invoked = stmt_induction IsInvoked
     (λ line name o e scope. ap (map (λ (x : Entered). x.body)) (entered-assign line name o e scope) ∙ ap invoked_in (sym (items-assign line name o e)))
     (λ line name p o e scope. ap (map (λ (x : Entered). x.body)) (entered-write line name p o e scope) ∙ ap invoked_in (sym (items-write line name p o e)))
     (λ arms other in_arms in_other scope.
-        ap (map (λ (x : Entered). x.body)) (entered-if arms other scope)
-        ∙ two_parts (entered_by_arms (map (λ a. (a, entered_by_arm a)) arms) scope) (entered_in other scope) (flat_map items_in_arm arms) (items_of other) (arms_invoked arms in_arms scope) (block_invoked other in_other scope)
-        ∙ ap invoked_in (sym (items-if arms other)))
+    ap (map (λ (x : Entered). x.body)) (entered-if arms other scope)
+    ∙ two_parts (entered_by_arms (map (λ a. (a, entered_by_arm a)) arms) scope) (entered_in other scope) (flat_map items_in_arm arms) (items_of other) (arms_invoked arms in_arms scope) (block_invoked other in_other scope)
+    ∙ ap invoked_in (sym (items-if arms other)))
     (λ l inside scope. ap (map (λ (x : Entered). x.body)) (entered-loop l scope) ∙ ap invoked_in (sym (items-loop l)))
 
 each_invoked : (stmts : List Stmt) → Each IsInvoked stmts
@@ -138,13 +138,13 @@ keeps_bound = stmt_induction KeepsBound
     (λ line name e scope bound. subst (Each HasBoundNames) (sym (entered-declare line name e scope)) tt)
     (λ line name o e scope bound. subst (Each HasBoundNames) (sym (entered-assign line name o e scope)) tt)
     (λ line name p o e scope bound.
-        subst (Each HasBoundNames) (sym (entered-write line name p o e scope)) (subst (Each IsBound) (sym (append-nil (in_stmt (stmt.Write line name p o e) level.Items scope).occurrences)) bound, tt))
+    subst (Each HasBoundNames) (sym (entered-write line name p o e scope)) (subst (Each IsBound) (sym (append-nil (in_stmt (stmt.Write line name p o e) level.Items scope).occurrences)) bound, tt))
     (λ arms other in_arms in_other scope bound.
-        let parts : Each IsBound (in_same_scope (map in_arm arms) level.Items scope ++ in_block other level.Items scope) = subst (Each IsBound) (occurrences-if level.Items scope arms other) bound in
-        subst (Each HasBoundNames) (sym (entered-if arms other scope))
-        (each_both HasBoundNames (entered_by_arms (map (λ a. (a, entered_by_arm a)) arms) scope) (entered_in other scope)
-        (arms_bound arms in_arms scope (each_left IsBound (in_same_scope (map in_arm arms) level.Items scope) (in_block other level.Items scope) parts))
-        (block_bound other in_other scope (each_right IsBound (in_same_scope (map in_arm arms) level.Items scope) (in_block other level.Items scope) parts))))
+    let parts : Each IsBound (in_same_scope (map in_arm arms) level.Items scope ++ in_block other level.Items scope) = subst (Each IsBound) (occurrences-if level.Items scope arms other) bound in
+    subst (Each HasBoundNames) (sym (entered-if arms other scope))
+    (each_both HasBoundNames (entered_by_arms (map (λ a. (a, entered_by_arm a)) arms) scope) (entered_in other scope)
+    (arms_bound arms in_arms scope (each_left IsBound (in_same_scope (map in_arm arms) level.Items scope) (in_block other level.Items scope) parts))
+    (block_bound other in_other scope (each_right IsBound (in_same_scope (map in_arm arms) level.Items scope) (in_block other level.Items scope) parts))))
     (λ l inside scope bound. subst (Each HasBoundNames) (sym (entered-loop l scope)) (inside_bound level.Items scope l (subst (Each IsBound) (loop_is l scope) bound), tt))
 
 each_keeps : (stmts : List Stmt) → Each KeepsBound stmts
