@@ -18,7 +18,7 @@ pub add_bodies_of-returns-in_ok-push-in-Write : goal.add_bodies_of-returns-in_ok
 add_bodies_of-returns-in_ok-push-in-Write t c =
     adds_alike _ _ ((c.args.stmt.now ∷ []) ∷ []) _
     (ap bodies_in_item c.in-Write.is ∙ bodies-write c.in-Write.line c.in-Write.array c.in-Write.place c.in-Write.op c.in-Write.value ∙ ap (λ (s : Stmt). (s ∷ []) ∷ []) (sym c.in-Write.is))
-    (ap (map (λ x. x.now)) c.in_ok-push-in-Write.ensures.items ∙ map-append (λ x. x.now) c.args.found.now.items _ ∙ ap (λ body. map (λ x. x.now) c.args.found.now.items ++ body ∷ []) c.from_ref-in-Write.ensures.value)
+    (ap (map (λ x. x.now)) c.in_ok-push-in-Write.ensures.items ∙ map-append (λ x. x.now) c.args.found.now.items _ ∙ ap (λ body. map (λ x. x.now) c.args.found.now.items ++ body ∷ []) c.from_ref.ensures.value)
 
 pub add_bodies_of-returns-in_ok-add_bodies-in-If : goal.add_bodies_of-returns-in_ok-add_bodies-in-If
 add_bodies_of-returns-in_ok-add_bodies-in-If t c =
