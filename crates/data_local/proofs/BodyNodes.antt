@@ -1,5 +1,5 @@
--- The bodies of each kind of statement, by what they give, and lists of names that are kept one body after another.
-use Rattle.std.proofs.Common.{◌≡◌, false, ℕ, zero, suc, ◌+◌, ◌<◌, ◌↔◌, IsTrue, List, [], ◌∷◌, ◌++◌, map, length, take, get_or, refl, sym, ap, ◌∙◌, subst, append_assoc}
+-- The bodies of each kind of statement, and lists of names that are kept one body after another.
+use Rattle.std.proofs.Common.{◌≡◌, false, ℕ, zero, suc, ◌+◌, ◌<◌, ◌↔◌, IsTrue, List, [], ◌∷◌, ◌++◌, map, length, take, get_or, refl, sym, ap, ◌∙◌, subst}
 use Rattle.std.specs.Prelude.{slice_index_or}
 use Rattle.std.specs.List.{flat_map}
 use Rattle.std.proofs.lemmas.List.{map-append, take_more}
@@ -9,79 +9,51 @@ use Rattle.nest_syntax.specs.declared.tree.Expr.{Expr}
 use Rattle.nest_syntax.specs.declared.tree.Arm.{Arm}
 use Rattle.nest_syntax.specs.declared.tree.Loop.{Loop}
 use Rattle.nest_syntax.specs.declared.tree.Stmt.{Stmt}
-use Rattle.nest_syntax.specs.declared.tree.Stmt.TheOpen.{Stmt-F}
-use Rattle.nest_syntax.specs.declared.tree.Stmt.TheFolds.{fold-roll-Stmt}
 use Rattle.nest_syntax.specs.declared.tree.Stmt.TheVariants as stmt
-use Rattle.nest_syntax.specs.declared.tree.Stmt.TheVariants.{rolls-Write}
-use Rattle.nest_syntax.specs.declared.tree.Program.{Program}
 use Rattle.nest_syntax.specs.Arrays.{Array}
-use Rattle.nest_syntax.specs.Course.{Setting, Item, Tested, Looped, in_order, chosen, region_of, setting_of, bodies_of, item_of, tested_of}
-use Rattle.nest_syntax.proofs.Equations.{item-declare, item-assign, item-write, item-if, item-loop, looped-is, tested-is}
+use Rattle.nest_syntax.specs.Shape.{Entry, items, items_in_arm, items_of, bodies_in, invoked_in_region, statements_of_each}
+use Rattle.nest_syntax.proofs.Shapes.{items-declare, items-assign, items-write, items-if, items-loop, items_in_arm-is, bodies_in-append, bodies_in-flat, statements-append}
 use Rattle.nest_syntax.specs.Among.{is_among}
-use Rattle.data_local.specs.Givings.{Given, Tried, Giving, given, given_node, tried_node, given_loop_node, givings}
+use Rattle.data_local.specs.Givings.{Giving, givings}
 use Rattle.data_local.specs.DataLocals.{IsGivenData}
-use Rattle.data_local.specs.Bodies.{AreLocalsByBody, givings_in_item, givings_in_items}
+use Rattle.data_local.specs.Bodies.{AreLocalsByBody, bodies_in_item, bodies_in_items}
 
-given-write : (line : Line) (name : ℕ) (p : Expr) (o : Op) (e : Expr) → given (stmt.Write line name p o e) ≡ (λ tests. [])
-given-write line name p o e = ap given (sym (rolls-Write line name p o e)) ∙ fold-roll-Stmt Given Tried Given given_node tried_node given_loop_node (Stmt-F.Write line name p o e)
+pub bodies-declare : (line : Line) (name : ℕ) (e : Expr) → bodies_in_item (stmt.Declare line name e) ≡ []
+bodies-declare line name e = ap bodies_in (items-declare line name e)
 
-firsts : {A B : Type 0} (f : A → B) (xs : List A) → map (λ (p : A × B). p.0) (map (λ x. (x, f x)) xs) ≡ xs
-firsts f [] = refl
-firsts f (x ∷ xs) = ap (λ ys. x ∷ ys) (firsts f xs)
+pub bodies-assign : (line : Line) (name : ℕ) (o : Op) (e : Expr) → bodies_in_item (stmt.Assign line name o e) ≡ []
+bodies-assign line name o e = ap bodies_in (items-assign line name o e)
 
-module _ (setting : Setting) where
-  abbrev items_at : List Stmt → Item
-  items_at stmts = in_order (map (λ (s : Stmt × Item). s.1) (map (λ s. (s, item_of setting s)) stmts))
+pub bodies-write : (line : Line) (name : ℕ) (p : Expr) (o : Op) (e : Expr) → bodies_in_item (stmt.Write line name p o e) ≡ (stmt.Write line name p o e ∷ []) ∷ []
+bodies-write line name p o e = ap bodies_in (items-write line name p o e)
 
-  items_give : (stmts : List Stmt) → map givings (items_at stmts).bodies ≡ givings_in_items setting stmts
-  items_give [] = refl
-  items_give (s ∷ stmts) = map-append givings (item_of setting s).bodies (items_at stmts).bodies ∙ ap (λ gs. givings_in_item setting s ++ gs) (items_give stmts)
+pub bodies-loop : (l : Loop) → bodies_in_item (stmt.Loop l) ≡ l.body ∷ []
+bodies-loop l = ap bodies_in (items-loop l)
 
-  abbrev arms_at : List Arm → Item → Item
-  arms_at arms other = chosen (map (λ (a : Arm × Tested). a.1) (map (λ a. (a, tested_of setting a)) arms)) other
+bodies_in_arms : (arms : List Arm) → bodies_in (flat_map items_in_arm arms) ≡ flat_map (λ (a : Arm). bodies_in_items a.body) arms
+bodies_in_arms [] = refl
+bodies_in_arms (a ∷ arms) =
+    bodies_in-append (items_in_arm a) (flat_map items_in_arm arms)
+    ∙ ap (λ bodies. bodies ++ bodies_in (flat_map items_in_arm arms)) (ap bodies_in (items_in_arm-is a) ∙ bodies_in-flat items a.body)
+    ∙ ap (λ bodies. bodies_in_items a.body ++ bodies) (bodies_in_arms arms)
 
-  arm_gives : (a : Arm) → map givings (tested_of setting a).bodies ≡ givings_in_items setting a.body
-  arm_gives a = ap (λ (t : Tested). map givings t.bodies) (tested-is setting a) ∙ items_give a.body
+pub bodies-if : (arms : List Arm) (other : List Stmt) → bodies_in_item (stmt.If arms other) ≡ flat_map (λ (a : Arm). bodies_in_items a.body) arms ++ bodies_in_items other
+bodies-if arms other =
+    ap bodies_in (items-if arms other)
+    ∙ bodies_in-append (flat_map items_in_arm arms) (items_of other)
+    ∙ ap (λ bodies. bodies ++ bodies_in (items_of other)) (bodies_in_arms arms)
+    ∙ ap (λ bodies. flat_map (λ (a : Arm). bodies_in_items a.body) arms ++ bodies) (bodies_in-flat items other)
 
-  arms_give : (arms : List Arm) (other : Item) → map givings (arms_at arms other).bodies ≡ flat_map (λ (a : Arm). givings_in_items setting a.body) arms ++ map givings other.bodies
-  arms_give [] other = refl
-  arms_give (a ∷ arms) other =
-      map-append givings (tested_of setting a).bodies (arms_at arms other).bodies
-      ∙ ap (λ gs. gs ++ map givings (arms_at arms other).bodies) (arm_gives a)
-      ∙ ap (λ gs. givings_in_items setting a.body ++ gs) (arms_give arms other)
-      ∙ sym (append_assoc (givings_in_items setting a.body) (flat_map (λ (a : Arm). givings_in_items setting a.body) arms) (map givings other.bodies))
+pub bodies_in_regions : (regions : List Loop) → flat_map (λ (l : Loop). bodies_in_items l.body) regions ≡ statements_of_each (flat_map invoked_in_region regions)
+bodies_in_regions [] = refl
+bodies_in_regions (l ∷ regions) =
+    ap (λ bodies. bodies ++ flat_map (λ (l : Loop). bodies_in_items l.body) regions) (sym (bodies_in-flat items l.body))
+    ∙ ap (λ bodies. bodies_in (items_of l.body) ++ bodies) (bodies_in_regions regions)
+    ∙ sym (statements-append (invoked_in_region l) (flat_map invoked_in_region regions))
 
-  pub gives-declare : (line : Line) (name : ℕ) (e : Expr) → givings_in_item setting (stmt.Declare line name e) ≡ []
-  gives-declare line name e = ap (λ (i : Item). map givings i.bodies) (item-declare setting line name e)
-
-  pub gives-assign : (line : Line) (name : ℕ) (o : Op) (e : Expr) → givings_in_item setting (stmt.Assign line name o e) ≡ []
-  gives-assign line name o e = ap (λ (i : Item). map givings i.bodies) (item-assign setting line name o e)
-
-  pub gives-write : (line : Line) (name : ℕ) (p : Expr) (o : Op) (e : Expr) → givings_in_item setting (stmt.Write line name p o e) ≡ [] ∷ []
-  gives-write line name p o e = ap (λ (i : Item). map givings i.bodies) (item-write setting line name p o e) ∙ ap (λ (g : Given). (g [] ++ []) ∷ []) (given-write line name p o e)
-
-  pub gives-if : (arms : List Arm) (other : List Stmt) → givings_in_item setting (stmt.If arms other) ≡ flat_map (λ (a : Arm). givings_in_items setting a.body) arms ++ givings_in_items setting other
-  gives-if arms other =
-      ap (λ (i : Item). map givings i.bodies) (item-if setting arms other) ∙ arms_give arms (items_at other)
-      ∙ ap (λ gs. flat_map (λ (a : Arm). givings_in_items setting a.body) arms ++ gs) (items_give other)
-
-  pub gives-loop : (l : Loop) → givings_in_item setting (stmt.Loop l) ≡ givings l.body ∷ []
-  gives-loop l =
-      ap (λ (i : Item). map givings i.bodies) (item-loop setting l) ∙ ap (λ (l : Looped). map givings l.invocation.bodies) (looped-is setting l)
-      ∙ ap (λ body. givings body ∷ []) (firsts (item_of setting) l.body)
-
-  region_gives : (l : Loop) → map givings (region_of setting l).bodies ≡ givings_in_items setting l.body
-  region_gives l = ap (λ (l : Looped). map givings l.region.bodies) (looped-is setting l) ∙ items_give l.body
-
-  pub regions_give : (regions : List Loop) → map givings (in_order (map (region_of setting) regions)).bodies ≡ flat_map (λ (l : Loop). givings_in_items setting l.body) regions
-  regions_give [] = refl
-  regions_give (l ∷ regions) =
-      map-append givings (region_of setting l).bodies (in_order (map (region_of setting) regions)).bodies
-      ∙ ap (λ gs. gs ++ map givings (in_order (map (region_of setting) regions)).bodies) (region_gives l)
-      ∙ ap (λ gs. givings_in_items setting l.body ++ gs) (regions_give regions)
-
-pub program_gives : (program : Program) → flat_map (λ (l : Loop). givings_in_items (setting_of program []) l.body) program.regions ≡ map givings (bodies_of program)
-program_gives program = sym (regions_give (setting_of program []) program.regions)
+pub map_then : {A B C : Type 0} (f : A → B) (g : B → C) (xs : List A) → map (λ x. g (f x)) xs ≡ map g (map f xs)
+map_then f g [] = refl
+map_then f g (x ∷ xs) = ap (λ ys. g (f x) ∷ ys) (map_then f g xs)
 
 -- lists of names, one for each of these lists of givings
 abbrev pub Kept : List Array → List (List Giving) → List (List ℕ) → Type 0

@@ -12,7 +12,7 @@ use Rattle.nest_syntax.specs.declared.tree.Stmt.TheOpen.{Stmt-F}
 use Rattle.nest_syntax.specs.declared.tree.Stmt.TheFolds.{para-Loop, para-roll-Stmt, para-roll-Arm, para-roll-Loop}
 use Rattle.nest_syntax.specs.declared.tree.Stmt.TheVariants as stmt
 use Rattle.nest_syntax.specs.declared.tree.Stmt.TheVariants.{rolls-Declare, rolls-Assign, rolls-Write, rolls-If, rolls-Loop}
-use Rattle.data_local.specs.Loops.{Loops, loops_node, loops_arm_node, loops_loop_node, loops, loops_in, loops_in_arm, outer_node, outer_loops, outer_loops_in_arm}
+use Rattle.data_local.specs.Loops.{Loops, loops_node, loops_arm_node, loops_loop_node, loops, loops_in, loops_in_arm}
 
 -- parts that stand beside their results
 flat_pairs : {A B : Type 0} (f : A → List B) (xs : List A) → flat_map (λ (p : A × List B). p.1) (map (λ x. (x, f x)) xs) ≡ flat_map f xs
@@ -42,27 +42,6 @@ loops-loop l =
 
 pub loops_in_arm-is : (a : Arm) → loops_in_arm a ≡ loops_in a.body
 loops_in_arm-is a = ap loops_in_arm (sym (roll-out-Arm a)) ∙ para-roll-Arm Loops Loops Loops loops_node loops_arm_node loops_loop_node (out-Arm a) ∙ flat_pairs loops a.body
-
-pub outer-declare : (line : Line) (name : ℕ) (e : Expr) → outer_loops (stmt.Declare line name e) ≡ []
-outer-declare line name e = ap outer_loops (sym (rolls-Declare line name e)) ∙ para-roll-Stmt Loops Loops Loops outer_node loops_arm_node loops_loop_node (Stmt-F.Declare line name e)
-
-pub outer-assign : (line : Line) (name : ℕ) (o : Op) (e : Expr) → outer_loops (stmt.Assign line name o e) ≡ []
-outer-assign line name o e = ap outer_loops (sym (rolls-Assign line name o e)) ∙ para-roll-Stmt Loops Loops Loops outer_node loops_arm_node loops_loop_node (Stmt-F.Assign line name o e)
-
-pub outer-write : (line : Line) (name : ℕ) (p : Expr) (o : Op) (e : Expr) → outer_loops (stmt.Write line name p o e) ≡ []
-outer-write line name p o e = ap outer_loops (sym (rolls-Write line name p o e)) ∙ para-roll-Stmt Loops Loops Loops outer_node loops_arm_node loops_loop_node (Stmt-F.Write line name p o e)
-
-pub outer-if : (arms : List Arm) (other : List Stmt) → outer_loops (stmt.If arms other) ≡ flat_map outer_loops_in_arm arms ++ flat_map outer_loops other
-outer-if arms other =
-    ap outer_loops (sym (rolls-If arms other)) ∙ para-roll-Stmt Loops Loops Loops outer_node loops_arm_node loops_loop_node (Stmt-F.If arms other)
-    ∙ ap (λ ls. ls ++ flat_map (λ (s : Stmt × Loops). s.1) (map (λ s. (s, outer_loops s)) other)) (flat_pairs outer_loops_in_arm arms)
-    ∙ ap (λ ls. flat_map outer_loops_in_arm arms ++ ls) (flat_pairs outer_loops other)
-
-pub outer-loop : (l : Loop) → outer_loops (stmt.Loop l) ≡ l ∷ []
-outer-loop l = ap outer_loops (sym (rolls-Loop l)) ∙ para-roll-Stmt Loops Loops Loops outer_node loops_arm_node loops_loop_node (Stmt-F.Loop l)
-
-pub outer_loops_in_arm-is : (a : Arm) → outer_loops_in_arm a ≡ flat_map outer_loops a.body
-outer_loops_in_arm-is a = ap outer_loops_in_arm (sym (roll-out-Arm a)) ∙ para-roll-Arm Loops Loops Loops outer_node loops_arm_node loops_loop_node (out-Arm a) ∙ flat_pairs outer_loops a.body
 
 -- what is gathered from a list whose first i parts are done
 pub gathers_more : {A B : Type 0} (f : A → List B) (xs : List A) (i : ℕ) → i < length xs → (here : A) → here ≡ get_or xs i here → (found found' whole part : List B)

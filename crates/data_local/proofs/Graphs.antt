@@ -9,13 +9,13 @@ use Rattle.nest_syntax.specs.declared.tree.Stmt.{Stmt}
 use Rattle.nest_syntax.specs.Arrays.{Array}
 use Rattle.nest_syntax.specs.Value.{names_written}
 use Rattle.graph_reach.specs.declared.Edge.{Edge}
-use Rattle.nest_syntax.specs.Among.{is_among}
+use Rattle.nest_syntax.specs.Among.{is_among, IsOne}
 use Rattle.graph_reach.specs.Reached.{is_edge, IsReached, start, along}
 use Rattle.data_local.specs.declared.rows.Row.{Row}
 use Rattle.data_local.specs.declared.rows.Row.TheVariants as row
 use Rattle.data_local.specs.Names.{scalars_in}
 use Rattle.data_local.specs.Givings.{Giving, givings}
-use Rattle.data_local.specs.DataLocals.{IsOne, IsGivenData, IsDataLocal, by_array, by_local}
+use Rattle.data_local.specs.DataLocals.{IsGivenData, IsDataLocal, by_array, by_local}
 use Rattle.data_local.specs.Rows.{tests_at, told, IsBuilt, node_of_name, node_of_test, edges_from, edges_to, row_edges, start_of, row_starts}
 use Rattle.data_local.proofs.Parts.{either, or_left, or_right, both_left, both_right, any_reverse, one_left, one_right, one_parts}
 

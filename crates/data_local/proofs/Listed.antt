@@ -15,9 +15,9 @@ use Rattle.nest_syntax.specs.declared.tree.Stmt.{Stmt}
 use Rattle.nest_syntax.specs.Arrays.{Array}
 use Rattle.data_local.specs.declared.rows.Row.{Row}
 use Rattle.data_local.specs.declared.rows.Row.TheVariants as row
-use Rattle.nest_syntax.specs.Among.{is_among}
+use Rattle.nest_syntax.specs.Among.{is_among, IsOne}
 use Rattle.data_local.specs.Givings.{Giving, givings}
-use Rattle.data_local.specs.DataLocals.{IsOne, IsGivenData, IsDataLocal, by_array, by_local, AreDataLocals}
+use Rattle.data_local.specs.DataLocals.{IsGivenData, IsDataLocal, by_array, by_local, AreDataLocals}
 use Rattle.data_local.specs.Rows.{tests_at, told, node_of_name, row_names}
 use Rattle.data_local.proofs.Parts.{either, or_left, or_right, any_reverse, one_parts}
 

@@ -10,13 +10,14 @@ use Rattle.nest_syntax.specs.declared.tree.Stmt.{Stmt}
 use Rattle.nest_syntax.specs.Arrays.{Array}
 use Rattle.nest_syntax.specs.Value.{names_written}
 use Rattle.lowest_line.proofs.Lists.{lower_of-where}
-use Rattle.lowest_line.specs.Lowest.{lower, lower_of, lines_where, lower_if}
-use Rattle.nest_syntax.specs.Among.{is_among}
+use Rattle.lowest_line.specs.Lowest.{lower_of, lines_where, lower_if, IsAtMost, Lowers}
+use Rattle.lowest_line.proofs.Lowers.{lowers_by}
+use Rattle.nest_syntax.specs.Among.{is_among, IsOne}
 use Rattle.data_local.specs.Names.{scalars_in}
-use Rattle.data_local.specs.DataLocals.{IsOne, IsData, AreDataLocals}
+use Rattle.data_local.specs.DataLocals.{IsData, AreDataLocals}
 use Rattle.data_local.specs.Loops.{loops_in}
-use Rattle.data_local.specs.Bounds.{line_of, HasDataBoundIn, IsLowest}
-use Rattle.data_local.specs.Breaches.{is_data, has_data_bound, IsAtMost, Lowers}
+use Rattle.data_local.specs.Bounds.{line_of, HasDataBoundIn}
+use Rattle.data_local.specs.Breaches.{is_data, has_data_bound}
 use Rattle.data_local.proofs.Parts.{either, or_left, or_right, one_left, one_right, one_parts}
 use denote.Ref.{Bor}
 
@@ -33,65 +34,6 @@ notes_more test loops i there here is breaks same found found' whole left more =
 
 pub notes_end : (test : Loop → Bool) (loops : List (Bor Loop)) (i : ℕ) → length loops ≤ i → (found whole : Option Line) → lower_of found (lines_where line_of test (map (λ x. x.now) (drop i loops))) ≡ whole → found ≡ whole
 notes_end test loops i over found whole left = ap (λ ls. lower_of found (lines_where line_of test (map (λ (x : Bor Loop). x.now) ls))) (sym (drop_all i loops over)) ∙ left
-
--- the lower of two lines is at most each, and one of them
-lower_new : (found : Option Line) (line : Line) → IsAtMost (lower found line) line
-lower_new None line = omega arith
-lower_new (Some lowest) line = by_test (nat_lt line.0 lowest.0) refl
-  where
-    by_test : (b : Bool) → nat_lt line.0 lowest.0 ≡ b → IsAtMost (Some (if b then line else lowest)) line
-    by_test true e = omega arith
-    by_test false e = ltb-false line.0 lowest.0 e
-
-lower_old : (lowest line : Line) → IsAtMost (lower (Some lowest) line) lowest
-lower_old lowest line = by_test (nat_lt line.0 lowest.0) refl
-  where
-    by_test : (b : Bool) → nat_lt line.0 lowest.0 ≡ b → IsAtMost (Some (if b then line else lowest)) lowest
-    by_test true e = let less : line.0 < lowest.0 = ltb-true line.0 lowest.0 e in omega arith
-    by_test false e = omega arith
-
-lower_from : (found : Option Line) (line some : Line) → lower found line ≡ Some some → (found ≡ Some some) ⊎ (some ≡ line)
-lower_from None line some e = inr (sym (let same : line ≡ some = cc in same))
-lower_from (Some lowest) line some e = by_test (nat_lt line.0 lowest.0) e
-  where
-    by_test : (b : Bool) → Some (if b then line else lowest) ≡ Some some → (Some lowest ≡ Some some) ⊎ (some ≡ line)
-    by_test true h = inr (let same : some ≡ line = cc in same)
-    by_test false h = inl h
-
-at_most_lower : (found : Option Line) (one line : Line) → IsAtMost found line → IsAtMost (lower found one) line
-at_most_lower None one line h = absurd h
-at_most_lower (Some lowest) one line h = by_test (nat_lt one.0 lowest.0) refl
-  where
-    by_test : (b : Bool) → nat_lt one.0 lowest.0 ≡ b → IsAtMost (Some (if b then one else lowest)) line
-    by_test true e = let less : one.0 < lowest.0 = ltb-true one.0 lowest.0 e in omega arith
-    by_test false e = h
-
-at_most_lowest : (found : Option Line) (lines : List Line) (line : Line) → IsAtMost found line → IsAtMost (lower_of found lines) line
-at_most_lowest found [] line h = h
-at_most_lowest found (one ∷ lines) line h = at_most_lowest (lower found one) lines line (at_most_lower found one line h)
-
-lowest_reached : (found : Option Line) (lines : List Line) (line : Line) → IsOne lines line → IsAtMost (lower_of found lines) line
-lowest_reached found [] line h = absurd h
-lowest_reached found (one ∷ lines) line (inl same) = subst (λ l. IsAtMost (lower_of (lower found one) lines) l) (sym same) (at_most_lowest (lower found one) lines one (lower_new found one))
-lowest_reached found (one ∷ lines) line (inr later) = lowest_reached (lower found one) lines line later
-
-lowest_from : (found : Option Line) (lines : List Line) (some : Line) → lower_of found lines ≡ Some some → (found ≡ Some some) ⊎ IsOne lines some
-lowest_from found [] some e = inl e
-lowest_from found (one ∷ lines) some e = elim (lowest_from (lower found one) lines some e) [
-  | inl here ↦ elim (lower_from found one some here) [ inl was ↦ inl was | inr same ↦ inr (inl same) ]
-  | inr later ↦ inr (inr later)
-]
-
-at_most_some : (found : Option Line) (line : Line) → found ≡ Some line → IsAtMost found line
-at_most_some found line e = subst (λ f. IsAtMost f line) (sym e) (let same : line.0 ≤ line.0 = omega arith in same)
-
-pub lowers_by : (Breaks : Line → Type 0) (lines : List Line) (old new : Option Line) → ((line : Line) → Breaks line → IsOne lines line) → ((line : Line) → IsOne lines line → Breaks line)
-    → new ≡ lower_of old lines → Lowers Breaks old new
-lowers_by Breaks lines old new into back is = record {
-  reached = λ line h. subst (λ f. IsAtMost f line) (sym is) (lowest_reached old lines line (into line h));
-  kept = λ line e. subst (λ f. IsAtMost f line) (sym is) (at_most_lowest old lines line (at_most_some old line e));
-  from = λ line e. elim (lowest_from old lines line (sym is ∙ e)) [ inl was ↦ inl was | inr one ↦ inr (back line one) ];
-}
 
 -- the lines of the loops that pass a test, both ways
 one_where : (test : Loop → Bool) (loops : List Loop) (l : Loop) → IsOne loops l → test l ≡ true → IsOne (lines_where line_of test loops) l.line
@@ -169,9 +111,9 @@ body_lowers arrays body locals loops old new are all is = lowers_by (HasDataBoun
           ],
         )
 
--- the lines of the invocations so far
-abbrev pub Among : List Array → List Loop → Line → Type 0
-Among arrays invoked line = (one : Loop) × IsOne invoked one × HasDataBoundIn arrays one.body line
+-- the lines of the bodies so far
+abbrev pub Among : List Array → List (List Stmt) → Line → Type 0
+Among arrays bodies line = (one : List Stmt) × IsOne bodies one × HasDataBoundIn arrays one line
 
 pub lowers_none : (arrays : List Array) → Lowers (Among arrays []) None None
 lowers_none arrays = record { reached = λ line h. h.1; kept = λ line e. absurd cc; from = λ line e. inl e }
@@ -180,29 +122,25 @@ lower_than : (found : Option Line) (lowest line : Line) → IsAtMost found lowes
 lower_than None lowest line h le = absurd h
 lower_than (Some one) lowest line h le = let most : one.0 ≤ lowest.0 = h in omega arith
 
-pub lowers_more : (arrays : List Array) (loops : List (Bor Loop)) (i : ℕ) → i < length loops → (here : Bor Loop) → here ≡ get_or loops i here → (found found' : Option Line)
-    → Lowers (Among arrays (map (λ x. x.now) (take i loops))) None found → Lowers (HasDataBoundIn arrays here.now.body) found found' → Lowers (Among arrays (map (λ x. x.now) (take (i + 1) loops))) None found'
-lowers_more arrays loops i there here is found found' before more = record {
-  reached = λ line h. reached_by line h.0 h.2 (one_parts (map (λ (x : Bor Loop). x.now) (take i loops)) (here.now ∷ []) h.0 (subst (λ ls. IsOne ls h.0) all h.1));
+pub lowers_more : (arrays : List Array) (bodies : List (Bor (List Stmt))) (i : ℕ) → i < length bodies → (here : Bor (List Stmt)) → here ≡ get_or bodies i here → (found found' : Option Line)
+    → Lowers (Among arrays (map (λ x. x.now) (take i bodies))) None found → Lowers (HasDataBoundIn arrays here.now) found found' → Lowers (Among arrays (map (λ x. x.now) (take (i + 1) bodies))) None found'
+lowers_more arrays bodies i there here is found found' before more = record {
+  reached = λ line h. reached_by line h.0 h.2 (one_parts (map (λ (x : Bor (List Stmt)). x.now) (take i bodies)) (here.now ∷ []) h.0 (subst (λ ls. IsOne ls h.0) all h.1));
   kept = λ line e. absurd cc;
   from = λ line e. elim (more.from line e) [
-    | inl was ↦ elim (before.from line was) [ inl none ↦ inl none | inr one ↦ inr (one.0, subst (λ ls. IsOne ls one.0) (sym all) (one_left (map (λ (x : Bor Loop). x.now) (take i loops)) (here.now ∷ []) one.0 one.1), one.2) ]
-    | inr bound ↦ inr (here.now, subst (λ ls. IsOne ls here.now) (sym all) (one_right (map (λ (x : Bor Loop). x.now) (take i loops)) (here.now ∷ []) here.now (inl refl)), bound)
+    | inl was ↦ elim (before.from line was) [ inl none ↦ inl none | inr one ↦ inr (one.0, subst (λ ls. IsOne ls one.0) (sym all) (one_left (map (λ (x : Bor (List Stmt)). x.now) (take i bodies)) (here.now ∷ []) one.0 one.1), one.2) ]
+    | inr bound ↦ inr (here.now, subst (λ ls. IsOne ls here.now) (sym all) (one_right (map (λ (x : Bor (List Stmt)). x.now) (take i bodies)) (here.now ∷ []) here.now (inl refl)), bound)
   ];
 }
   where
-    all : map (λ (x : Bor Loop). x.now) (take (i + 1) loops) ≡ map (λ (x : Bor Loop). x.now) (take i loops) ++ here.now ∷ []
-    all = ap (map (λ (x : Bor Loop). x.now)) (take_more loops i here there ∙ ap (λ x. take i loops ++ x ∷ []) (sym is)) ∙ map-append (λ (x : Bor Loop). x.now) (take i loops) (here ∷ [])
+    all : map (λ (x : Bor (List Stmt)). x.now) (take (i + 1) bodies) ≡ map (λ (x : Bor (List Stmt)). x.now) (take i bodies) ++ here.now ∷ []
+    all = ap (map (λ (x : Bor (List Stmt)). x.now)) (take_more bodies i here there ∙ ap (λ x. take i bodies ++ x ∷ []) (sym is)) ∙ map-append (λ (x : Bor (List Stmt)). x.now) (take i bodies) (here ∷ [])
 
     at_most : (o : Option Line) (line : Line) → found ≡ o → IsAtMost o line → IsAtMost found' line
     at_most None line e h = absurd h
     at_most (Some lowest) line e h = lower_than found' lowest line (more.kept lowest e) h
 
-    reached_by : (line : Line) (one : Loop) → HasDataBoundIn arrays one.body line → IsOne (map (λ (x : Bor Loop). x.now) (take i loops)) one ⊎ IsOne (here.now ∷ []) one → IsAtMost found' line
+    reached_by : (line : Line) (one : List Stmt) → HasDataBoundIn arrays one line → IsOne (map (λ (x : Bor (List Stmt)). x.now) (take i bodies)) one ⊎ IsOne (here.now ∷ []) one → IsAtMost found' line
     reached_by line one bound (inl was) = at_most found line refl (before.reached line (one, was, bound))
-    reached_by line one bound (inr (inl same)) = more.reached line (subst (λ (l : Loop). HasDataBoundIn arrays l.body line) same bound)
+    reached_by line one bound (inr (inl same)) = more.reached line (subst (λ (b : List Stmt). HasDataBoundIn arrays b line) same bound)
     reached_by line one bound (inr (inr none)) = absurd none
-
-pub lowest_of : (Breaks : Line → Type 0) (found : Option Line) → Lowers Breaks None found → IsLowest Breaks found
-lowest_of Breaks None lowers = λ line h. lowers.reached line h
-lowest_of Breaks (Some lowest) lowers = (elim (lowers.from lowest refl) [ inl none ↦ absurd cc | inr breaks ↦ breaks ], λ line h. lowers.reached line h)

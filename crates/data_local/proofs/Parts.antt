@@ -9,9 +9,8 @@ use Rattle.nest_syntax.specs.declared.tree.Expr.TheOpen.{Expr-F}
 use Rattle.nest_syntax.specs.declared.tree.Expr.TheFolds.{fold-roll-Expr}
 use Rattle.nest_syntax.specs.declared.tree.Expr.TheVariants as expr
 use Rattle.nest_syntax.specs.declared.tree.Expr.TheVariants.{rolls-Choice}
-use Rattle.nest_syntax.specs.Among.{is_among}
+use Rattle.nest_syntax.specs.Among.{is_among, IsOne}
 use Rattle.data_local.specs.Names.{arrays_in, arrays_node}
-use Rattle.data_local.specs.DataLocals.{IsOne}
 
 pub either : (a b : Bool) → (a || b) ≡ true → (a ≡ true) ⊎ (b ≡ true)
 either true b e = inl refl

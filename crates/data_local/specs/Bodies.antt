@@ -1,10 +1,9 @@
 -- The data locals of each body of a program.
-use Rattle.std.specs.Prelude.{◌≡◌, ℕ, List, [], map, length, slice_index_or}
+use Rattle.std.specs.Prelude.{◌≡◌, ℕ, List, [], length, slice_index_or}
 use Rattle.std.specs.List.{flat_map}
 use Rattle.nest_syntax.specs.declared.tree.Stmt.{Stmt}
 use Rattle.nest_syntax.specs.Arrays.{Array}
-use Rattle.nest_syntax.specs.Course.{Setting, item_of}
-use Rattle.data_local.specs.Givings.{Giving, givings}
+use Rattle.nest_syntax.specs.Shape.{items, bodies_in}
 use Rattle.data_local.specs.DataLocals.{AreDataLocals}
 
 -- the body with this number; where there is none, an empty one
@@ -16,9 +15,9 @@ pub record AreLocalsByBody (arrays : List Array) (bodies : List (List Stmt)) (li
   pub as_many : length lists ≡ length bodies
   pub each : (number : ℕ) → AreDataLocals arrays (body_numbered bodies number) (slice_index_or lists number [])
 
--- the givings of each body that a statement of a region holds, and that statements of a region hold
-abbrev pub givings_in_item : Setting → Stmt → List (List Giving)
-givings_in_item setting s = map givings (item_of setting s).bodies
+-- the bodies that a statement of a region holds, and that statements of a region hold
+abbrev pub bodies_in_item : Stmt → List (List Stmt)
+bodies_in_item s = bodies_in (items s)
 
-abbrev pub givings_in_items : Setting → List Stmt → List (List Giving)
-givings_in_items setting stmts = flat_map (givings_in_item setting) stmts
+abbrev pub bodies_in_items : List Stmt → List (List Stmt)
+bodies_in_items stmts = flat_map bodies_in_item stmts

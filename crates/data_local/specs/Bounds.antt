@@ -1,5 +1,5 @@
 -- The two rules on bounds, as the lines that break them.
-use Rattle.std.specs.Prelude.{◌≡◌, ℕ, ◌≤◌, Bool, false, ◌||◌, ◌⊎◌, Option, MatchOption, List, map}
+use Rattle.std.specs.Prelude.{◌≡◌, ℕ, Bool, false, ◌||◌, ◌⊎◌, List, map}
 use Rattle.std.specs.List.{list_any}
 use Rattle.nest_syntax.specs.declared.names.Line.{Line}
 use Rattle.nest_syntax.specs.declared.tree.Arm.{Arm}
@@ -9,11 +9,12 @@ use Rattle.nest_syntax.specs.declared.tree.Stmt.TheOpen.{Stmt-F, Arm-F, Loop-F}
 use Rattle.nest_syntax.specs.declared.tree.Stmt.TheFolds.{fold-Stmt, fold-Arm, fold-Loop}
 use Rattle.nest_syntax.specs.declared.tree.Program.{Program}
 use Rattle.nest_syntax.specs.Arrays.{Array, arrays_of}
+use Rattle.nest_syntax.specs.Shape.{bodies_of}
 use Rattle.lowest_line.specs.Lowest.{lines_where}
-use Rattle.nest_syntax.specs.Among.{is_among}
+use Rattle.nest_syntax.specs.Among.{is_among, IsOne}
 use Rattle.data_local.specs.Names.{scalars_in, arrays_in}
-use Rattle.data_local.specs.DataLocals.{IsOne, IsData}
-use Rattle.data_local.specs.Loops.{loops_in, loops_of, invocations}
+use Rattle.data_local.specs.DataLocals.{IsData}
+use Rattle.data_local.specs.Loops.{loops_in, loops_of}
 
 -- one layer of a statement, an arm and a loop
 abbrev pub changes_node : List ℕ → List ℕ → Stmt-F Bool Bool Bool → Bool
@@ -63,8 +64,4 @@ HasDataBoundIn arrays body line = (inner : Loop) × IsOne (loops_in body) inner 
 
 -- The same in some body of a program: the bounds of such loops must be known from slice locals and `const` arrays.
 abbrev pub HasDataBound : Program → Line → Type 0
-HasDataBound program line = (invoked : Loop) × IsOne (invocations program) invoked × HasDataBoundIn (arrays_of program.decls) invoked.body line
-
--- the lowest line of those that break a rule: none where no line does
-abbrev pub IsLowest : (Line → Type 0) → Option Line → Type 0
-IsLowest Breaks found = MatchOption found ((line : Line) → Breaks line → ⊥) (λ lowest. Breaks lowest × ((line : Line) → Breaks line → lowest.0 ≤ line.0))
+HasDataBound program line = (body : List Stmt) × IsOne (bodies_of program) body × HasDataBoundIn (arrays_of program.decls) body line

@@ -1,7 +1,6 @@
 -- How the lowest lines are found: what the parts of the search tell of each other.
-use Rattle.std.specs.Prelude.{◌≡◌, ℕ, ◌≤◌, Bool, ◌||◌, ◌⊎◌, Option, Some, None, List}
+use Rattle.std.specs.Prelude.{◌≡◌, ℕ, Bool, ◌||◌, List}
 use Rattle.std.specs.List.{list_any}
-use Rattle.nest_syntax.specs.declared.names.Line.{Line}
 use Rattle.nest_syntax.specs.declared.tree.Expr.{Expr}
 use Rattle.nest_syntax.specs.declared.tree.Loop.{Loop}
 use Rattle.nest_syntax.specs.Arrays.{Array}
@@ -20,14 +19,3 @@ is_data arrays locals e = names_written arrays e || list_any (is_among locals) (
 
 abbrev pub has_data_bound : List Array → List ℕ → Loop → Bool
 has_data_bound arrays locals l = is_data arrays locals l.low || is_data arrays locals l.high
-
--- that there is a line, not above this one
-abbrev pub IsAtMost : Option Line → Line → Type 0
-IsAtMost None line = ⊥
-IsAtMost (Some lowest) line = lowest.0 ≤ line.0
-
--- what the lowest line becomes by the lines that break a rule
-pub record Lowers (Breaks : Line → Type 0) (old new : Option Line) : Type 0 where
-  pub reached : (line : Line) → Breaks line → IsAtMost new line
-  pub kept : (line : Line) → old ≡ Some line → IsAtMost new line
-  pub from : (line : Line) → new ≡ Some line → (old ≡ Some line) ⊎ Breaks line

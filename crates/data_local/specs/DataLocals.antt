@@ -1,18 +1,13 @@
 -- The data locals of a body: the least set of names such that a name belongs to it where one of its givings depends on an
 -- expression that names a written array or a name of the set.
-use Rattle.std.specs.Prelude.{◌≡◌, ℕ, true, ◌⊎◌, ◌↔◌, IsTrue, List, [], ◌∷◌}
+use Rattle.std.specs.Prelude.{◌≡◌, ℕ, true, ◌⊎◌, ◌↔◌, IsTrue, List, []}
 use Rattle.nest_syntax.specs.declared.tree.Expr.{Expr}
 use Rattle.nest_syntax.specs.declared.tree.Stmt.{Stmt}
 use Rattle.nest_syntax.specs.Arrays.{Array}
 use Rattle.nest_syntax.specs.Value.{names_written}
-use Rattle.nest_syntax.specs.Among.{is_among}
+use Rattle.nest_syntax.specs.Among.{is_among, IsOne}
 use Rattle.data_local.specs.Names.{scalars_in}
 use Rattle.data_local.specs.Givings.{Giving, givings}
-
--- that a value is one of a list
-abbrev pub IsOne : {A : Type 0} → List A → A → Type 0
-IsOne [] one = ⊥
-IsOne (first ∷ others) one = (one ≡ first) ⊎ IsOne others one
 
 -- the names that are made data by these givings
 pub data IsGivenData (arrays : List Array) (givings : List Giving) : ℕ → Type 0 where

@@ -1,5 +1,4 @@
--- The loops of a program. A loop at depth 1 is a region; a loop at depth 2, also inside the `if`s of a region, invokes its
--- body.
+-- The loops of a program, at any depth.
 use Rattle.std.specs.Prelude.{List, [], ◌∷◌, ◌++◌}
 use Rattle.std.specs.List.{flat_map}
 use Rattle.nest_syntax.specs.declared.tree.Arm.{Arm}
@@ -39,21 +38,3 @@ loops_in stmts = flat_map loops stmts
 -- all loops of a program, its regions among them
 abbrev pub loops_of : Program → Loops
 loops_of program = flat_map (λ (region : Loop). region ∷ loops_in region.body) program.regions
-
--- the same, but the loops inside a loop don't count
-abbrev pub outer_node : Stmt-F (Stmt × Loops) (Arm × Loops) (Loop × Loops) → Loops
-outer_node (Stmt-F.Declare line name value) = []
-outer_node (Stmt-F.Assign line name op value) = []
-outer_node (Stmt-F.Write line array place op value) = []
-outer_node (Stmt-F.If arms other) = flat_map (λ (a : Arm × Loops). a.1) arms ++ flat_map (λ (s : Stmt × Loops). s.1) other
-outer_node (Stmt-F.Loop l) = l.0 ∷ []
-
-abbrev pub outer_loops : Stmt → Loops
-outer_loops = para-Stmt Loops Loops Loops outer_node loops_arm_node loops_loop_node
-
-abbrev pub outer_loops_in_arm : Arm → Loops
-outer_loops_in_arm = para-Arm Loops Loops Loops outer_node loops_arm_node loops_loop_node
-
--- the loops at depth 2
-abbrev pub invocations : Program → Loops
-invocations program = flat_map (λ (region : Loop). flat_map outer_loops region.body) program.regions

@@ -1,13 +1,14 @@
 ghost use Rattle.std.specs.Prelude.{◌≡◌, ◌||◌, ℕ, List, map, IfOk, OnOk};
 ghost use Rattle.nest_syntax.specs.Arrays.{Array};
-ghost use Rattle.lowest_line.specs.Lowest.{lower_if, lower_of, lowest, lines_where};
+ghost use Rattle.lowest_line.specs.Lowest.{IsLowest, IsLowestOf, lower_if, lower_of, lowest, lines_where, Lowers};
 ghost use Rattle.nest_syntax.specs.Among.{is_among};
 ghost use Rattle.data_local.specs.Written.{TellsWritten};
-ghost use Rattle.data_local.specs.Bounds.{line_of, changes, changes_one, changes_one_in_arms, changes_in_loop, changes_its_bound, lines_of_changed_bounds, HasDataBoundIn, HasDataBound, IsLowest};
-ghost use Rattle.data_local.specs.Breaches.{HasSameNames, is_data, has_data_bound, Lowers};
+ghost use Rattle.data_local.specs.Bounds.{line_of, changes, changes_one, changes_one_in_arms, changes_in_loop, changes_its_bound, lines_of_changed_bounds, HasDataBoundIn, HasDataBound};
+ghost use Rattle.data_local.specs.Breaches.{HasSameNames, is_data, has_data_bound};
 
+use crate::bodies::bodies_of;
 use crate::locals::{DataLocals, data_locals_of};
-use crate::loops::{invocations, loops_in, loops_of};
+use crate::loops::{loops_in, loops_of};
 use crate::names::NamedIn;
 use crate::written::WrittenArrays;
 use lowest_line::Lowest;
@@ -24,7 +25,7 @@ pub struct BoundBreaches {
 
 /// The lowest lines of a program that break the rules on bounds.
 pub fn bound_breaches(alloc: Global, program: &Program) -> Result<BoundBreaches, NoMemory>
-    ensures high { IfOk result (λ breaches. breaches.high ≡ lowest (lines_of_changed_bounds program.now)) }
+    ensures high { IfOk result (λ breaches. IsLowestOf (lines_of_changed_bounds program.now) breaches.high) }
     ensures inner { IfOk result (λ breaches. IsLowest (HasDataBound program.now) breaches.inner) }
 {
     let high = lowest_changed_bound(alloc, program)?;
@@ -116,10 +117,10 @@ fn lowest_data_bound(alloc: Global, program: &Program) -> Result<Option<Line>, N
     ensures { IfOk result (λ found. IsLowest (HasDataBound program.now) found) }
 {
     let written = WrittenArrays::new(alloc, program.decls.as_slice())?;
-    let invoked = invocations(alloc, program)?;
+    let bodies = bodies_of(alloc, program)?;
     let mut found = Lowest::new();
-    for one in &invoked {
-        note_data_bounds(alloc, one.body.as_slice(), &written, &mut found)?;
+    for body in &bodies {
+        note_data_bounds(alloc, body, &written, &mut found)?;
     }
     Ok(found.line())
 }

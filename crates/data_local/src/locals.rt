@@ -88,8 +88,9 @@ pub(crate) fn data_locals_of(
     ensures { IfOk result (λ locals. (arrays : List Array) → TellsWritten arrays written.now → AreDataLocals arrays body.now locals) }
 {
     let rows = rows_of(alloc, body)?;
-    let mut graph = graph_of(alloc, &rows, written)?;
-    let nodes = reached(alloc, &graph.starts, &mut graph.edges)?;
+    let graph = graph_of(alloc, &rows, written)?;
+    let edges = graph.edges;
+    let nodes = reached(alloc, &graph.starts, edges)?;
     let names = reached_names(alloc, &rows, &nodes)?;
     Ok(DataLocals::of(names))
 }

@@ -1,6 +1,6 @@
 ghost use Rattle.std.specs.Prelude.{◌≡◌, ◌∷◌, ◌++◌, map, IfOk, OnOk};
 ghost use Rattle.std.specs.List.{flat_map};
-ghost use Rattle.data_local.specs.Loops.{loops, loops_in, loops_of, loops_in_arm, outer_loops, outer_loops_in_arm, invocations};
+ghost use Rattle.data_local.specs.Loops.{loops, loops_in, loops_of, loops_in_arm};
 
 use nest_syntax::{Arm, Loop, NoMemory, Program, Stmt};
 use std::alloc::Global;
@@ -22,20 +22,6 @@ pub(crate) fn loops_in<'a>(alloc: Global, body: &'a [Stmt]) -> Result<Vec<&'a Lo
 {
     let mut found = Vec::new(alloc);
     add_loops(body, &mut found)?;
-    Ok(found)
-}
-
-/// The loops at depth 2 of a program.
-pub(crate) fn invocations<'a>(
-    alloc: Global,
-    program: &'a Program,
-) -> Result<Vec<&'a Loop>, NoMemory>
-    ensures { IfOk result (λ found. map (λ l. l.now) found.items ≡ invocations program.now) }
-{
-    let mut found = Vec::new(alloc);
-    for region in program.regions.as_slice() {
-        add_outer_loops(region.body.as_slice(), &mut found)?;
-    }
     Ok(found)
 }
 
@@ -85,44 +71,4 @@ fn add_loop<'a>(inner: &'a Loop, found: &mut Vec<&'a Loop>) -> Result<(), NoMemo
 {
     found.push(inner)?;
     add_loops(inner.body.as_slice(), found)
-}
-
-#[cycle(gather_outer)]
-fn add_outer_loops<'a>(stmts: &'a [Stmt], found: &mut Vec<&'a Loop>) -> Result<(), NoMemory>
-    ensures { OnOk result (map (λ l. l.now) found.new.items ≡ map (λ l. l.now) found.old.items ++ flat_map outer_loops stmts.now) }
-{
-    for stmt in stmts {
-        add_outer_loops_of(stmt, found)?;
-    }
-    Ok(())
-}
-
-#[cycle(gather_outer)]
-fn add_outer_loops_of<'a>(stmt: &'a Stmt, found: &mut Vec<&'a Loop>) -> Result<(), NoMemory>
-    ensures { OnOk result (map (λ l. l.now) found.new.items ≡ map (λ l. l.now) found.old.items ++ outer_loops stmt.now) }
-{
-    match stmt {
-        Stmt::Declare { .. } => Ok(()),
-        Stmt::Assign { .. } => Ok(()),
-        Stmt::Write { .. } => Ok(()),
-        Stmt::If { arms, other } => {
-            add_outer_loops_of_arms(arms.as_slice(), found)?;
-            add_outer_loops(other.as_slice(), found)?;
-            Ok(())
-        }
-        Stmt::Loop(inner) => {
-            found.push(inner)?;
-            Ok(())
-        }
-    }
-}
-
-#[cycle(gather_outer)]
-fn add_outer_loops_of_arms<'a>(arms: &'a [Arm], found: &mut Vec<&'a Loop>) -> Result<(), NoMemory>
-    ensures { OnOk result (map (λ l. l.now) found.new.items ≡ map (λ l. l.now) found.old.items ++ flat_map outer_loops_in_arm arms.now) }
-{
-    for arm in arms {
-        add_outer_loops(arm.body.as_slice(), found)?;
-    }
-    Ok(())
 }

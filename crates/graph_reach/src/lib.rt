@@ -43,13 +43,13 @@ impl Nodes {
     }
 }
 
-/// The nodes that are reached from the starts along the edges, which it puts into another order.
-pub fn reached(alloc: Global, starts: &[u64], edges: &mut [Edge]) -> Result<Nodes, NoMemory>
-    ensures { IfOk result (λ nodes. (node : ℕ) → IsTrue (is_among nodes node) ↔ IsReached starts.now edges.old node) }
+/// The nodes that are reached from the starts along the edges, which may come in any order.
+pub fn reached(alloc: Global, starts: &[u64], mut edges: Vec<Edge>) -> Result<Nodes, NoMemory>
+    ensures { IfOk result (λ nodes. (node : ℕ) → IsTrue (is_among nodes node) ↔ IsReached starts.now edges.items node) }
 {
     edges.sort_unstable_by_key(|edge| edge.from);
     Ok(Nodes {
-        nodes: search(alloc, starts, edges)?,
+        nodes: search(alloc, starts, &edges)?,
     })
 }
 

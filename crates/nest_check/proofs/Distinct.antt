@@ -20,7 +20,8 @@ use Rattle.nest_scope.specs.declared.occurrences.Occurrence.{Occurrence}
 use Rattle.nest_scope.specs.Occurrences.{Scope, bound, with_bound, array_binding, in_decls, unbound, occurrence}
 use Rattle.nest_scope.specs.Rules.{is_redeclared, redeclares, line_of}
 use Rattle.nest_check.specs.Through.{through}
-use Rattle.nest_check.specs.Declarations.{Declaration, has_name, with_declaration, first_of_each}
+use Rattle.nest_syntax.specs.Shape.{Declaration}
+use Rattle.nest_check.specs.Declarations.{has_name, with_declaration, first_of_each}
 use Rattle.nest_check.specs.Entries.{scalars_in, scalars_in_region, scheduler_scalars}
 use Rattle.nest_check.specs.Rules.{array_lines}
 use Rattle.nest_check.specs.Kept.{KeepsRules}

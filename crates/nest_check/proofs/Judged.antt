@@ -1,5 +1,5 @@
 -- What follows where no rule is broken.
-use Rattle.std.proofs.Common.{◌≡◌, ℕ, zero, suc, ◌≤◌, if◌then◌else◌, nat_lt, Option, Some, None, List, [], ◌∷◌, ◌++◌, length, take, refl, sym, ap, ◌∙◌, arith}
+use Rattle.std.proofs.Common.{◌≡◌, ℕ, zero, suc, ◌+◌, ◌<◌, ◌≤◌, Option, Some, None, List, [], ◌∷◌, ◌++◌, length, take, refl, sym, ap, ◌∙◌, subst, arith, inl}
 use Rattle.std.proofs.lemmas.List.{take_all}
 use Rattle.nest_syntax.specs.declared.names.Line.{Line}
 use Rattle.nest_syntax.specs.declared.tree.Program.{Program}
@@ -7,26 +7,18 @@ use Rattle.nest_syntax.specs.declared.tree.Loop.{Loop}
 use Rattle.nest_syntax.specs.declared.tree.Decl.{Decl}
 use Rattle.nest_syntax.specs.declared.tree.Decl.TheVariants as decl
 use Rattle.lowest_line.proofs.Lists.{lower_of-append}
-use Rattle.lowest_line.specs.Lowest.{lower_of, lowest, lines_where}
-use Rattle.data_local.specs.Bounds.{HasDataBound, IsLowest}
+use Rattle.lowest_line.specs.Lowest.{IsLowest, lower_of, lowest, lines_where}
+use Rattle.nest_syntax.specs.Among.{IsOne}
+use Rattle.nest_scope.specs.Rules.{lines_redeclared, lines_unknown, lines_const_written, lines_loop_variable_assigned, lines_scheduler_scalar_assigned}
+use Rattle.data_local.specs.Bounds.{lines_of_changed_bounds}
 use Rattle.nest_syntax.specs.Arrays.{arrays_of, array_names}
-use Rattle.nest_check.specs.Declarations.{Declaration, first_of_each, lines_of, names_of}
+use Rattle.nest_syntax.specs.Shape.{Declaration}
+use Rattle.nest_check.specs.Declarations.{first_of_each, lines_of, names_of}
 use Rattle.nest_check.specs.Entries.{scheduler_scalars}
-use Rattle.nest_check.specs.Rules.{first_behind, array_lines, region_lines, part_line, is_deep, parts_of, deep_expressions}
+use Rattle.nest_check.specs.Rules.{first_behind, array_lines, region_lines, part_line, is_deep, parts_of, beyond_64, wrong_lengths, wrong_steps, deep_loops, large_regions, large_bodies, deep_expressions}
 use Rattle.nest_check.specs.Kept.{KeepsRules}
-use Rattle.nest_check.specs.Broken.{Judged, first_broken, IsBroken}
-
-some_lowest : (lines : List Line) (line : Line) → (found : Line) × (lower_of (Some line) lines ≡ Some found)
-some_lowest [] line = (line, refl)
-some_lowest (l ∷ lines) line = some_lowest lines (if nat_lt l.0 line.0 then l else line)
-
-pub none_lowest : (lines : List Line) → lowest lines ≡ None → lines ≡ []
-none_lowest [] e = refl
-none_lowest (line ∷ lines) e = let s = some_lowest lines line in let wrong : Some s.0 ≡ None = sym s.1 ∙ e in absurd (cc)
-
-first_kept : (rule : ℕ) (o : Option Line) (rules : List Judged) → first_broken ((rule, o) ∷ rules) ≡ None → (o ≡ None) × (first_broken rules ≡ None)
-first_kept rule None rules e = (refl, e)
-first_kept rule (Some line) rules e = absurd (cc)
+use Rattle.nest_check.specs.Noted.{Judged, first_broken}
+use Rattle.nest_check.specs.Broken.{Rules, no_rule, rule_and, BreaksAt, rules_on, BreaksRule, IsBroken}
 
 pub nil_left : {A : Type 0} (xs ys : List A) → xs ++ ys ≡ [] → xs ≡ []
 nil_left [] ys e = refl
@@ -36,42 +28,27 @@ pub nil_right : {A : Type 0} (xs ys : List A) → xs ++ ys ≡ [] → ys ≡ []
 nil_right [] ys e = e
 nil_right (x ∷ xs) ys e = absurd (cc)
 
-none_breaks : (program : Program) (inner : Option Line) → IsLowest (HasDataBound program) inner → inner ≡ None → (line : Line) → HasDataBound program line → ⊥
-none_breaks program None is e = is
-none_breaks program (Some line) is e = absurd (cc)
+none_listed : (lines : List Line) → ((line : Line) → IsOne lines line → ⊥) → lines ≡ []
+none_listed [] none = refl
+none_listed (line ∷ lines) none = absurd (none line (inl refl))
 
 pub keeps_all : (program : Program) → IsBroken program None → KeepsRules program
-keeps_all program b =
-    let r1 = first_kept _ _ _ (sym b.found_is) in
-    let r2 = first_kept _ _ _ r1.1 in
-    let r3 = first_kept _ _ _ r2.1 in
-    let r4 = first_kept _ _ _ r3.1 in
-    let r5 = first_kept _ _ _ r4.1 in
-    let r6 = first_kept _ _ _ r5.1 in
-    let r7 = first_kept _ _ _ r6.1 in
-    let r8 = first_kept _ _ _ r7.1 in
-    let r9 = first_kept _ _ _ r8.1 in
-    let r10 = first_kept _ _ _ r9.1 in
-    let r11 = first_kept _ _ _ r10.1 in
-    let r12 = first_kept _ _ _ r11.1 in
-    let r13 = first_kept _ _ _ r12.1 in
-    let r14 = first_kept _ _ _ r13.1 in
-    record {
-      few = none_lowest _ r1.0;
-      declared_once = none_lowest _ r2.0;
-      known = none_lowest _ r3.0;
-      lengths = none_lowest _ r4.0;
-      constant = none_lowest _ r5.0;
-      steps = none_lowest _ r6.0;
-      levels = none_lowest _ r7.0;
-      variables = none_lowest _ r8.0;
-      scheduled = none_lowest _ r9.0;
-      bounds = none_lowest _ r10.0;
-      inner = none_breaks program b.inner b.inner_is r11.0;
-      items = none_lowest _ r12.0;
-      bodies = none_lowest _ r13.0;
-      depths = none_lowest _ r14.0;
-    }
+keeps_all program none = record {
+  few = none_listed (beyond_64 program) (none 1);
+  declared_once = none_listed (lines_redeclared program) (none 2);
+  known = none_listed (lines_unknown program) (none 3);
+  lengths = none_listed (wrong_lengths program) (none 4);
+  constant = none_listed (lines_const_written program) (none 5);
+  steps = none_listed (wrong_steps program) (none 6);
+  levels = none_listed (deep_loops program) (none 7);
+  variables = none_listed (lines_loop_variable_assigned program) (none 8);
+  scheduled = none_listed (lines_scheduler_scalar_assigned program) (none 9);
+  bounds = none_listed (lines_of_changed_bounds program) (none 10);
+  inner = none 11;
+  items = none_listed (large_regions program) (none 12);
+  bodies = none_listed (large_bodies program) (none 13);
+  depths = none_listed (deep_expressions program) (none 14);
+}
 
 few_behind : (many : ℕ) (lines : List Line) → first_behind many lines ≡ [] → length lines ≤ many
 few_behind many [] e = omega arith
@@ -124,9 +101,60 @@ behind_kept many [] = refl
 behind_kept zero (d ∷ ds) = refl
 behind_kept (suc many) (d ∷ ds) = behind_kept many ds
 
--- the rules as they were judged, one by one
-pub one_more : (rule : ℕ) (o o' : Option Line) (rules rules' : List Judged) → o ≡ o' → rules ≡ rules' → ((rule, o) ∷ rules) ≡ ((rule, o') ∷ rules')
-one_more rule o o' rules rules' here others = ap (λ x. (rule, x) ∷ rules) here ∙ ap (λ rs. (rule, o') ∷ rs) others
+-- the first of some rules that is broken, where these are numbered from n on
+abbrev pub IsFirst : ℕ → Rules → Option (ℕ × Line) → Type 0
+IsFirst n rules None = (place : ℕ) (line : Line) → BreaksAt rules place line → ⊥
+IsFirst n rules (Some broken) = (place : ℕ) × (broken.0 ≡ n + place) × IsLowest (BreaksAt rules place) (Some broken.1) × ((lower : ℕ) (line : Line) → lower < place → BreaksAt rules lower line → ⊥)
+
+one_more : (n : ℕ) (Breaks : Line → Type 0) (rules : Rules) (found : Option Line) (judged : List Judged) → IsLowest Breaks found → IsFirst (suc n) rules (first_broken judged) → IsFirst n (rule_and Breaks rules) (first_broken ((n, found) ∷ judged))
+one_more n Breaks rules (Some line) judged is rest = (0, omega arith, is, λ lower line less breaks. absurd (omega (arith, less)))
+one_more n Breaks rules None judged is rest = by (first_broken judged) rest
+  where
+    before : (lower place : ℕ) (line : Line) → ((lower : ℕ) (line : Line) → lower < place → BreaksAt rules lower line → ⊥) → lower < suc place → BreaksAt (rule_and Breaks rules) lower line → ⊥
+    before zero place line none less breaks = is line breaks
+    before (suc lower) place line none less breaks = none lower line (omega (arith, less)) breaks
+
+    nowhere : (place : ℕ) (line : Line) → ((place : ℕ) (line : Line) → BreaksAt rules place line → ⊥) → BreaksAt (rule_and Breaks rules) place line → ⊥
+    nowhere zero line none breaks = is line breaks
+    nowhere (suc place) line none breaks = none place line breaks
+
+    by : (broken : Option (ℕ × Line)) → IsFirst (suc n) rules broken → IsFirst n (rule_and Breaks rules) broken
+    by None none = λ place line breaks. nowhere place line none breaks
+    by (Some broken) first = (suc first.0, omega (arith, first.1), first.2, λ lower line less breaks. before lower first.0 line first.3 less breaks)
+
+-- rules that are numbered from n on, each with its lowest line
+abbrev pub numbered : ℕ → List (Option Line) → List Judged
+numbered n [] = []
+numbered n (found ∷ others) = (n, found) ∷ numbered (suc n) others
+
+abbrev pub AreLowest : Rules → List (Option Line) → Type 0
+AreLowest no_rule [] = Unit {0}
+AreLowest no_rule (found ∷ others) = ⊥
+AreLowest (rule_and Breaks rules) [] = ⊥
+AreLowest (rule_and Breaks rules) (found ∷ others) = IsLowest Breaks found × AreLowest rules others
+
+first_from : (n : ℕ) (rules : Rules) (lines : List (Option Line)) → AreLowest rules lines → IsFirst n rules (first_broken (numbered n lines))
+first_from n no_rule [] are = λ place line breaks. breaks
+first_from n no_rule (found ∷ others) are = absurd are
+first_from n (rule_and Breaks rules) [] are = absurd are
+first_from n (rule_and Breaks rules) (found ∷ others) are = one_more n Breaks rules found (numbered (suc n) others) are.0 (first_from (suc n) rules others are.1)
+
+first_is : (program : Program) (found : Option (ℕ × Line)) → IsFirst 1 (rules_on program) found → IsBroken program found
+first_is program None none = nowhere
+  where
+    nowhere : (rule : ℕ) (line : Line) → BreaksRule program rule line → ⊥
+    nowhere zero line breaks = breaks
+    nowhere (suc place) line breaks = none place line breaks
+first_is program (Some broken) first =
+    let number : broken.0 ≡ suc first.0 = omega (arith, first.1) in
+    (subst (λ rule. IsLowest (BreaksRule program rule) (Some broken.1)) (sym number) first.2, λ rule line less breaks. before rule line (omega (arith, less, number)) breaks)
+  where
+    before : (rule : ℕ) (line : Line) → rule < suc first.0 → BreaksRule program rule line → ⊥
+    before zero line less breaks = breaks
+    before (suc place) line less breaks = first.3 place line (omega (arith, less)) breaks
+
+pub broken_is : (program : Program) (lines : List (Option Line)) → AreLowest (rules_on program) lines → IsBroken program (first_broken (numbered 1 lines))
+broken_is program lines are = first_is program (first_broken (numbered 1 lines)) (first_from 1 (rules_on program) lines are)
 
 pub deep_is : (program : Program) (result depths : Option Line) (kept : List Declaration) → result ≡ lower_of depths (first_behind 32 (lines_of kept)) → depths ≡ lowest (lines_where part_line is_deep (parts_of program)) → kept ≡ take 33 (first_of_each (scheduler_scalars program))
     → result ≡ lowest (deep_expressions program)

@@ -8,3 +8,4 @@ pub mod Judged
 pub mod Bodies
 pub mod Few
 pub mod Distinct
+pub mod OneJudgement

@@ -10,7 +10,7 @@ use Rattle.nest_check.specs.declared.parts.Breaches.{Breaches}
 use Rattle.nest_check.specs.Through.{through}
 use Rattle.nest_check.specs.Parts.{Part}
 use Rattle.nest_check.specs.Noted.{noted}
-use Rattle.nest_check.specs.Rules.{part_line, has_wrong_step, has_no_level, is_deep, first_behind, array_lines}
+use Rattle.nest_check.specs.Rules.{part_line, has_wrong_step, is_deep_loop, is_deep, first_behind, array_lines}
 
 -- what is left, where the declaration at a place is known
 pub array_left : {B : Type 0} (f : List Decl → B) (decls : List Decl) (i : ℕ) (none : Decl) (line : Line) (name size : ℕ) (fixed : Bool) → i < length decls → get_or decls i none ≡ decl.Array line name size fixed → f (drop i decls) ≡ f (decl.Array line name size fixed ∷ drop (i + 1) decls)
@@ -54,9 +54,9 @@ pub steps_noted : (found : Breaches) (parts : List Part) → (through noted foun
 steps_noted found [] = refl
 steps_noted found (part ∷ parts) = steps_noted (noted found part) parts ∙ lower_of-where part_line has_wrong_step found.steps part parts
 
-pub levels_noted : (found : Breaches) (parts : List Part) → (through noted found parts).levels ≡ lower_of found.levels (lines_where part_line has_no_level parts)
+pub levels_noted : (found : Breaches) (parts : List Part) → (through noted found parts).levels ≡ lower_of found.levels (lines_where part_line is_deep_loop parts)
 levels_noted found [] = refl
-levels_noted found (part ∷ parts) = levels_noted (noted found part) parts ∙ lower_of-where part_line has_no_level found.levels part parts
+levels_noted found (part ∷ parts) = levels_noted (noted found part) parts ∙ lower_of-where part_line is_deep_loop found.levels part parts
 
 pub depths_noted : (found : Breaches) (parts : List Part) → (through noted found parts).depths ≡ lower_of found.depths (lines_where part_line is_deep parts)
 depths_noted found [] = refl
@@ -66,8 +66,8 @@ depths_noted found (part ∷ parts) = depths_noted (noted found part) parts ∙ 
 pub steps_lowest : (found begun : Breaches) (parts : List Part) → found ≡ through noted begun parts → begun.steps ≡ None → found.steps ≡ lower_of None (lines_where part_line has_wrong_step parts)
 steps_lowest found begun parts walked none = ap (λ (b : Breaches). b.steps) walked ∙ steps_noted begun parts ∙ ap (λ f. lower_of f (lines_where part_line has_wrong_step parts)) none
 
-pub levels_lowest : (found begun : Breaches) (parts : List Part) → found ≡ through noted begun parts → begun.levels ≡ None → found.levels ≡ lower_of None (lines_where part_line has_no_level parts)
-levels_lowest found begun parts walked none = ap (λ (b : Breaches). b.levels) walked ∙ levels_noted begun parts ∙ ap (λ f. lower_of f (lines_where part_line has_no_level parts)) none
+pub levels_lowest : (found begun : Breaches) (parts : List Part) → found ≡ through noted begun parts → begun.levels ≡ None → found.levels ≡ lower_of None (lines_where part_line is_deep_loop parts)
+levels_lowest found begun parts walked none = ap (λ (b : Breaches). b.levels) walked ∙ levels_noted begun parts ∙ ap (λ f. lower_of f (lines_where part_line is_deep_loop parts)) none
 
 pub depths_lowest : (found begun : Breaches) (parts : List Part) → found ≡ through noted begun parts → begun.depths ≡ None → found.depths ≡ lower_of None (lines_where part_line is_deep parts)
 depths_lowest found begun parts walked none = ap (λ (b : Breaches). b.depths) walked ∙ depths_noted begun parts ∙ ap (λ f. lower_of f (lines_where part_line is_deep parts)) none

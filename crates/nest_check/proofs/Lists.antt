@@ -24,17 +24,17 @@ flat_more step f xs i there here is s s' whole left more =
 pub flat_end : {S E A : Type 0} (step : S → E → S) (f : A → List E) (xs : List A) (i : ℕ) → length xs ≤ i → (s whole : S) → through step s (flat_map f (drop i xs)) ≡ whole → s ≡ whole
 flat_end step f xs i over s whole left = ap (λ ys. through step s (flat_map f ys)) (sym (drop_all i xs over)) ∙ left
 
--- the same of parts at a level
-pub parts_more : {S A : Type 0} (step : S → Part → S) (f : A → Parts_at) (levels : ℕ) (xs : List A) (i : ℕ) → i < length xs → (here : A) → here ≡ get_or xs i here → (s s' whole : S)
-    → through step s (all_at (map f (drop i xs)) levels) ≡ whole → s' ≡ through step s (f here levels) → through step s' (all_at (map f (drop (i + 1) xs)) levels) ≡ whole
-parts_more step f levels xs i there here is s s' whole left more =
-    ap (λ t. through step t (all_at (map f (drop (i + 1) xs)) levels)) more
-    ∙ sym (through-append step s (f here levels) (all_at (map f (drop (i + 1) xs)) levels))
-    ∙ ap (λ ys. through step s (all_at (map f ys) levels)) (sym (left_is xs i there here is))
+-- the same of parts at a depth
+pub parts_more : {S A : Type 0} (step : S → Part → S) (f : A → Parts_at) (at : ℕ) (xs : List A) (i : ℕ) → i < length xs → (here : A) → here ≡ get_or xs i here → (s s' whole : S)
+    → through step s (all_at (map f (drop i xs)) at) ≡ whole → s' ≡ through step s (f here at) → through step s' (all_at (map f (drop (i + 1) xs)) at) ≡ whole
+parts_more step f at xs i there here is s s' whole left more =
+    ap (λ t. through step t (all_at (map f (drop (i + 1) xs)) at)) more
+    ∙ sym (through-append step s (f here at) (all_at (map f (drop (i + 1) xs)) at))
+    ∙ ap (λ ys. through step s (all_at (map f ys) at)) (sym (left_is xs i there here is))
     ∙ left
 
-pub parts_end : {S A : Type 0} (step : S → Part → S) (f : A → Parts_at) (levels : ℕ) (xs : List A) (i : ℕ) → length xs ≤ i → (s whole : S) → through step s (all_at (map f (drop i xs)) levels) ≡ whole → s ≡ whole
-parts_end step f levels xs i over s whole left = ap (λ ys. through step s (all_at (map f ys) levels)) (sym (drop_all i xs over)) ∙ left
+pub parts_end : {S A : Type 0} (step : S → Part → S) (f : A → Parts_at) (at : ℕ) (xs : List A) (i : ℕ) → length xs ≤ i → (s whole : S) → through step s (all_at (map f (drop i xs)) at) ≡ whole → s ≡ whole
+parts_end step f at xs i over s whole left = ap (λ ys. through step s (all_at (map f ys) at)) (sym (drop_all i xs over)) ∙ left
 
 -- the same of single items
 pub each_more : {S A : Type 0} (step : S → A → S) (xs : List A) (i : ℕ) → i < length xs → (here : A) → here ≡ get_or xs i here → (s s' whole : S)

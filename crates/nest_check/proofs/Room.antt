@@ -14,9 +14,10 @@ use Rattle.data_local.specs.Bounds.{line_of}
 use Rattle.nest_check.specs.declared.entries.Tally.{Tally}
 use Rattle.nest_check.specs.declared.items.Sizes.{Sizes}
 use Rattle.nest_check.specs.Through.{through}
-use Rattle.nest_check.specs.Declarations.{Declaration, has_name, with_declaration, first_of_each}
-use Rattle.nest_check.specs.Entries.{Entry, Plain, Declares, Invokes, items_of, statements_of, declarations_in, invocations_in, scalars_in_region}
-use Rattle.nest_check.specs.Rules.{is_large_body, has_many_items, locals_of}
+use Rattle.nest_syntax.specs.Shape.{Declaration, Body, body_of_loop, Entry, Plain, Declares, Invokes, items_of, declarations_in, invoked_in, invoked_in_region}
+use Rattle.nest_check.specs.Declarations.{has_name, with_declaration, first_of_each}
+use Rattle.nest_check.specs.Entries.{statements_of, scalars_in_region}
+use Rattle.nest_check.specs.Rules.{is_large_body, line_of_body, has_many_items, locals_of}
 use Rattle.nest_check.specs.Noted.{added, entered, passed, region_begun, region_passed}
 use Rattle.nest_check.proofs.Lists.{through-append}
 
@@ -27,13 +28,13 @@ pub room_left : (most : ℕ) (tally : Tally) (entries : List Entry) → (through
 room_left most tally [] = omega arith
 room_left most tally (Plain ∷ entries) = less_one tally.room _ _ (length entries) (room_left most (entered most tally Plain) entries) refl
 room_left most tally (Declares d ∷ entries) = less_one tally.room _ _ (length entries) (room_left most (entered most tally (Declares d)) entries) refl
-room_left most tally (Invokes l ∷ entries) = less_one tally.room _ _ (length entries) (room_left most (entered most tally (Invokes l)) entries) refl
+room_left most tally (Invokes b ∷ entries) = less_one tally.room _ _ (length entries) (room_left most (entered most tally (Invokes b)) entries) refl
 
 pub names_kept : (most : ℕ) (tally : Tally) (entries : List Entry) → (through (entered most) tally entries).names ≡ through (added most) tally.names (declarations_in entries)
 names_kept most tally [] = refl
 names_kept most tally (Plain ∷ entries) = names_kept most (entered most tally Plain) entries
 names_kept most tally (Declares d ∷ entries) = names_kept most (entered most tally (Declares d)) entries
-names_kept most tally (Invokes l ∷ entries) = names_kept most (entered most tally (Invokes l)) entries
+names_kept most tally (Invokes b ∷ entries) = names_kept most (entered most tally (Invokes b)) entries
 
 -- no room is left exactly where there are more than were allowed
 pub no_room : (most n : ℕ) → (suc most - n == 0) ≡ nat_lt most n
@@ -84,14 +85,14 @@ more_kept most xs = by (nat_lt most (length xs)) refl
 
 -- whether a body is too large, by what is left of its room and by the names kept
 pub large_is : (l : Loop) (begun tally : Tally) → begun.room ≡ 1025 → begun.names ≡ added 17 [] (l.name, l.line) → tally ≡ through (entered 17) begun (statements_of l.body)
-    → (tally.room == 0 || nat_lt 16 (length tally.names)) ≡ is_large_body l
+    → (tally.room == 0 || nat_lt 16 (length tally.names)) ≡ is_large_body (body_of_loop l)
 large_is l begun tally room names walked =
     ap (λ n. n == 0 || nat_lt 16 (length tally.names)) (ap (λ (t : Tally). t.room) walked ∙ room_left 17 begun (statements_of l.body) ∙ ap (λ n. n - length (statements_of l.body)) room)
     ∙ ap (λ b. b || nat_lt 16 (length tally.names)) (no_room 1024 (length (statements_of l.body)))
     ∙ ap (λ ns. nat_lt 1024 (length (statements_of l.body)) || nat_lt 16 (length ns)) kept
-    ∙ ap (λ b. nat_lt 1024 (length (statements_of l.body)) || b) (more_kept 16 (locals_of l))
+    ∙ ap (λ b. nat_lt 1024 (length (statements_of l.body)) || b) (more_kept 16 (locals_of (body_of_loop l)))
   where
-    kept : tally.names ≡ take 17 (locals_of l)
+    kept : tally.names ≡ take 17 (locals_of (body_of_loop l))
     kept = ap (λ (t : Tally). t.names) walked ∙ names_kept 17 begun (statements_of l.body) ∙ ap (λ ns. through (added 17) ns (declarations_in (statements_of l.body))) names ∙ capped 17 [] ((l.name, l.line) ∷ declarations_in (statements_of l.body))
 
 -- one entry, and then others
@@ -119,25 +120,22 @@ items_regions : (sizes : Sizes) (entries : List Entry) → (through passed sizes
 items_regions sizes [] = refl
 items_regions sizes (e ∷ entries) = items_regions (passed sizes e) entries
 
-items_bodies : (sizes : Sizes) (entries : List Entry) → (through passed sizes entries).bodies ≡ lower_of sizes.bodies (lines_where line_of is_large_body (invocations_in entries))
+items_bodies : (sizes : Sizes) (entries : List Entry) → (through passed sizes entries).bodies ≡ lower_of sizes.bodies (lines_where line_of_body is_large_body (invoked_in entries))
 items_bodies sizes [] = refl
 items_bodies sizes (Plain ∷ entries) = items_bodies (passed sizes Plain) entries
 items_bodies sizes (Declares d ∷ entries) = items_bodies (passed sizes (Declares d)) entries
-items_bodies sizes (Invokes l ∷ entries) = items_bodies (passed sizes (Invokes l)) entries ∙ lower_of-where line_of is_large_body sizes.bodies l (invocations_in entries)
+items_bodies sizes (Invokes b ∷ entries) = items_bodies (passed sizes (Invokes b)) entries ∙ lower_of-where line_of_body is_large_body sizes.bodies b (invoked_in entries)
 
-large_append : (xs ys : List Loop) → lines_where line_of is_large_body (xs ++ ys) ≡ lines_where line_of is_large_body xs ++ lines_where line_of is_large_body ys
-large_append xs ys = ap (map line_of) (filter-append is_large_body xs ys) ∙ map-append line_of (filter is_large_body xs) (filter is_large_body ys)
+large_append : (xs ys : List Body) → lines_where line_of_body is_large_body (xs ++ ys) ≡ lines_where line_of_body is_large_body xs ++ lines_where line_of_body is_large_body ys
+large_append xs ys = ap (map line_of_body) (filter-append is_large_body xs ys) ∙ map-append line_of_body (filter is_large_body xs) (filter is_large_body ys)
 
-abbrev pub invocations_of : List Loop → List Loop
-invocations_of regions = flat_map (λ (region : Loop). invocations_in (items_of region.body)) regions
-
-pub bodies_found : (sizes : Sizes) (regions : List Loop) → (through region_passed sizes regions).bodies ≡ lower_of sizes.bodies (lines_where line_of is_large_body (invocations_of regions))
+pub bodies_found : (sizes : Sizes) (regions : List Loop) → (through region_passed sizes regions).bodies ≡ lower_of sizes.bodies (lines_where line_of_body is_large_body (flat_map invoked_in_region regions))
 bodies_found sizes [] = refl
 bodies_found sizes (region ∷ regions) =
     bodies_found (region_passed sizes region) regions
-    ∙ ap (λ f. lower_of f (lines_where line_of is_large_body (invocations_of regions))) (items_bodies (region_begun sizes region) (items_of region.body))
-    ∙ sym (lower_of-append sizes.bodies (lines_where line_of is_large_body (invocations_in (items_of region.body))) (lines_where line_of is_large_body (invocations_of regions)))
-    ∙ ap (lower_of sizes.bodies) (sym (large_append (invocations_in (items_of region.body)) (invocations_of regions)))
+    ∙ ap (λ f. lower_of f (lines_where line_of_body is_large_body (flat_map invoked_in_region regions))) (items_bodies (region_begun sizes region) (items_of region.body))
+    ∙ sym (lower_of-append sizes.bodies (lines_where line_of_body is_large_body (invoked_in_region region)) (lines_where line_of_body is_large_body (flat_map invoked_in_region regions)))
+    ∙ ap (lower_of sizes.bodies) (sym (large_append (invoked_in_region region) (flat_map invoked_in_region regions)))
 
 region_left : (sizes : Sizes) (region : Loop) → (through passed (region_begun sizes region) (items_of region.body)).tally.room ≡ 65 - length (items_of region.body)
 region_left sizes region = ap (λ (t : Tally). t.room) (items_tally (region_begun sizes region) (items_of region.body)) ∙ room_left 33 (region_begun sizes region).tally (items_of region.body)
@@ -161,8 +159,8 @@ scalars_found sizes (region ∷ regions) =
     ∙ sym (through-append (added 33) sizes.tally.names (scalars_in_region region) (flat_map scalars_in_region regions))
 
 -- regions from the beginning
-pub bodies_lowest : (found begun : Sizes) (regions : List Loop) → found ≡ through region_passed begun regions → begun.bodies ≡ None → found.bodies ≡ lower_of None (lines_where line_of is_large_body (invocations_of regions))
-bodies_lowest found begun regions walked none = ap (λ (s : Sizes). s.bodies) walked ∙ bodies_found begun regions ∙ ap (λ f. lower_of f (lines_where line_of is_large_body (invocations_of regions))) none
+pub bodies_lowest : (found begun : Sizes) (regions : List Loop) → found ≡ through region_passed begun regions → begun.bodies ≡ None → found.bodies ≡ lower_of None (lines_where line_of_body is_large_body (flat_map invoked_in_region regions))
+bodies_lowest found begun regions walked none = ap (λ (s : Sizes). s.bodies) walked ∙ bodies_found begun regions ∙ ap (λ f. lower_of f (lines_where line_of_body is_large_body (flat_map invoked_in_region regions))) none
 
 pub regions_lowest : (found begun : Sizes) (regions : List Loop) → found ≡ through region_passed begun regions → begun.regions ≡ None → found.regions ≡ lower_of None (lines_where line_of has_many_items regions)
 regions_lowest found begun regions walked none = ap (λ (s : Sizes). s.regions) walked ∙ regions_found begun regions ∙ ap (λ f. lower_of f (lines_where line_of has_many_items regions)) none

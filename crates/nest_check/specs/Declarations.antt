@@ -3,11 +3,8 @@ use Rattle.std.specs.Prelude.{ℕ, suc, Bool, if◌then◌else◌, ◌==◌, Opt
 use Rattle.std.specs.Option.{option_map}
 use Rattle.std.specs.List.{list_any}
 use Rattle.nest_syntax.specs.declared.names.Line.{Line}
+use Rattle.nest_syntax.specs.Shape.{Declaration}
 use Rattle.nest_check.specs.Through.{through}
-
--- a declaration: its name and its line
-abbrev pub Declaration : Type 0
-Declaration = ℕ × Line
 
 abbrev pub has_name : List Declaration → ℕ → Bool
 has_name found name = list_any (λ (d : Declaration). d.0 == name) found

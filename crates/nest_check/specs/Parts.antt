@@ -1,5 +1,5 @@
 -- The loops and the expressions of a program, each with its line.
-use Rattle.std.specs.Prelude.{ℕ, suc, ◌-◌, max, List, [], ◌∷◌, ◌++◌}
+use Rattle.std.specs.Prelude.{ℕ, suc, max, List, [], ◌∷◌, ◌++◌}
 use Rattle.std.specs.List.{flat_map}
 use Rattle.nest_syntax.specs.declared.names.Line.{Line}
 use Rattle.nest_syntax.specs.declared.tree.Expr.{Expr, fold-Expr}
@@ -22,31 +22,30 @@ depth_node (Expr-F.Choice test first second) = suc (max test (max first second))
 abbrev pub depth : Expr → ℕ
 depth = fold-Expr ℕ depth_node
 
--- A loop with its step and the number of levels that loops may still have here, or an expression. The line is that of
--- the innermost statement, arm or loop.
+-- A loop with its step and its depth, or an expression. The line is that of the innermost statement, arm or loop.
 pub data Part : Type 0 where
   ALoop : Line → ℕ → ℕ → Part
   AnExpression : Line → Expr → Part
 
--- the parts of a statement, from the number of levels that its loops may still have
+-- the parts of a statement, from the depth at which its loops stand
 abbrev pub Parts_at : Type 0
 Parts_at = ℕ → List Part
 
 abbrev pub all_at : List Parts_at → Parts_at
-all_at parts levels = flat_map (λ (p : Parts_at). p levels) parts
+all_at parts at = flat_map (λ (p : Parts_at). p at) parts
 
 abbrev pub parts_node : Stmt-F Parts_at Parts_at Parts_at → Parts_at
-parts_node (Stmt-F.Declare line name value) levels = AnExpression line value ∷ []
-parts_node (Stmt-F.Assign line name op value) levels = AnExpression line value ∷ []
-parts_node (Stmt-F.Write line array place op value) levels = AnExpression line place ∷ AnExpression line value ∷ []
-parts_node (Stmt-F.If arms other) levels = all_at arms levels ++ all_at other levels
-parts_node (Stmt-F.Loop l) levels = l levels
+parts_node (Stmt-F.Declare line name value) at = AnExpression line value ∷ []
+parts_node (Stmt-F.Assign line name op value) at = AnExpression line value ∷ []
+parts_node (Stmt-F.Write line array place op value) at = AnExpression line place ∷ AnExpression line value ∷ []
+parts_node (Stmt-F.If arms other) at = all_at arms at ++ all_at other at
+parts_node (Stmt-F.Loop l) at = l at
 
 abbrev pub arm_parts_node : Arm-F Parts_at Parts_at Parts_at → Parts_at
-arm_parts_node arm levels = AnExpression arm.line arm.test ∷ all_at arm.body levels
+arm_parts_node arm at = AnExpression arm.line arm.test ∷ all_at arm.body at
 
 abbrev pub loop_parts_node : Loop-F Parts_at Parts_at Parts_at → Parts_at
-loop_parts_node l levels = ALoop l.line l.step levels ∷ AnExpression l.line l.low ∷ AnExpression l.line l.high ∷ all_at l.body (levels - 1)
+loop_parts_node l at = ALoop l.line l.step at ∷ AnExpression l.line l.low ∷ AnExpression l.line l.high ∷ all_at l.body (suc at)
 
 abbrev pub parts : Stmt → Parts_at
 parts = fold-Stmt Parts_at Parts_at Parts_at parts_node arm_parts_node loop_parts_node

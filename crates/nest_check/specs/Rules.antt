@@ -1,6 +1,6 @@
 -- Rules of the checker. Each is the list of the lines that break it; the program keeps it where that list is empty.
 use Rattle.std.specs.Prelude.{ℕ, ◌+◌, Bool, false, ◌||◌, if◌then◌else◌, nat_lt, ◌==◌, List, [], ◌∷◌, ◌++◌, map, take, drop, length}
-use Rattle.std.specs.List.{flat_map}
+use Rattle.std.specs.Option.{option_map_or}
 use Rattle.nest_syntax.specs.declared.names.Line.{Line}
 use Rattle.nest_syntax.specs.declared.tree.Decl.{Decl}
 use Rattle.nest_syntax.specs.declared.tree.Decl.TheVariants as decl
@@ -8,8 +8,9 @@ use Rattle.nest_syntax.specs.declared.tree.Loop.{Loop}
 use Rattle.nest_syntax.specs.declared.tree.Program.{Program}
 use Rattle.lowest_line.specs.Lowest.{lines_where}
 use Rattle.data_local.specs.Bounds.{line_of}
-use Rattle.nest_check.specs.Declarations.{Declaration, first_of_each, lines_of}
-use Rattle.nest_check.specs.Entries.{items_of, statements_of, declarations_in, invocations_in, scheduler_scalars}
+use Rattle.nest_syntax.specs.Shape.{Declaration, Body, items_of, declarations_in, invoked_by}
+use Rattle.nest_check.specs.Declarations.{first_of_each, lines_of}
+use Rattle.nest_check.specs.Entries.{statements_of, scheduler_scalars}
 use Rattle.nest_check.specs.Parts.{Part, ALoop, AnExpression, depth, all_at, parts_in_loop}
 
 -- the first behind so many lines, where there are more
@@ -53,28 +54,28 @@ wrong_lengths program = lengths_outside program.decls ++ sum_passes 0 program.de
 
 -- the line of a part
 abbrev pub part_line : Part → Line
-part_line (ALoop line step levels) = line
+part_line (ALoop line step at) = line
 part_line (AnExpression line e) = line
 
--- the loops and expressions of a program; loops may have four levels
+-- the loops and expressions of a program, whose regions are loops at depth 1
 abbrev pub parts_of : Program → List Part
-parts_of program = all_at (map parts_in_loop program.regions) 4
+parts_of program = all_at (map parts_in_loop program.regions) 1
 
 abbrev pub has_wrong_step : Part → Bool
-has_wrong_step (ALoop line step levels) = is_outside 65536 step
+has_wrong_step (ALoop line step at) = is_outside 65536 step
 has_wrong_step (AnExpression line e) = false
 
 -- A step is 1 to 65,536.
 abbrev pub wrong_steps : Program → List Line
 wrong_steps program = lines_where part_line has_wrong_step (parts_of program)
 
-abbrev pub has_no_level : Part → Bool
-has_no_level (ALoop line step levels) = levels == 0
-has_no_level (AnExpression line e) = false
+abbrev pub is_deep_loop : Part → Bool
+is_deep_loop (ALoop line step at) = nat_lt 4 at
+is_deep_loop (AnExpression line e) = false
 
 -- Loops stand at depth 1 to 4.
 abbrev pub deep_loops : Program → List Line
-deep_loops program = lines_where part_line has_no_level (parts_of program)
+deep_loops program = lines_where part_line is_deep_loop (parts_of program)
 
 abbrev pub has_many_items : Loop → Bool
 has_many_items region = nat_lt 64 (length (items_of region.body))
@@ -83,19 +84,26 @@ has_many_items region = nat_lt 64 (length (items_of region.body))
 abbrev pub large_regions : Program → List Line
 large_regions program = lines_where line_of has_many_items program.regions
 
--- the locals of an invocation, its loop's variable among them: the first declaration of each name
-abbrev pub locals_of : Loop → List Declaration
-locals_of l = first_of_each ((l.name, l.line) ∷ declarations_in (statements_of l.body))
+-- the variable of the loop that invokes a body, where one does
+abbrev pub variable_of : Body → List Declaration
+variable_of body = option_map_or (λ (l : Loop). (l.name, l.line) ∷ []) body.header []
 
-abbrev pub is_large_body : Loop → Bool
-is_large_body l = nat_lt 1024 (length (statements_of l.body)) || nat_lt 16 (length (locals_of l))
+-- the locals of a body, the variable of its loop among them: the first declaration of each name
+abbrev pub locals_of : Body → List Declaration
+locals_of body = first_of_each (variable_of body ++ declarations_in (statements_of body.stmts))
+
+abbrev pub is_large_body : Body → Bool
+is_large_body body = nat_lt 1024 (length (statements_of body.stmts)) || nat_lt 16 (length (locals_of body))
+
+abbrev pub line_of_body : Body → Line
+line_of_body body = body.line
 
 -- A body has at most 1,024 statements and at most 16 names of locals.
 abbrev pub large_bodies : Program → List Line
-large_bodies program = lines_where line_of is_large_body (flat_map (λ (region : Loop). invocations_in (items_of region.body)) program.regions)
+large_bodies program = lines_where line_of_body is_large_body (invoked_by program)
 
 abbrev pub is_deep : Part → Bool
-is_deep (ALoop line step levels) = false
+is_deep (ALoop line step at) = false
 is_deep (AnExpression line e) = nat_lt 16 (depth e)
 
 -- An expression has depth at most 16, and a program has at most 32 names of scheduler scalars.

@@ -3,7 +3,7 @@ use Rattle.std.specs.Prelude.{◌≡◌, ℕ, if◌then◌else◌, is_none, Opti
 use Rattle.nest_syntax.specs.declared.tree.Program.{Program}
 use Rattle.nest_syntax.specs.Named.{IsWellNamed}
 use Rattle.nest_syntax.specs.Arrays.{arrays_of, sizes_of, array_of}
-use Rattle.nest_syntax.specs.Course.{bodies_of}
+use Rattle.nest_syntax.specs.Shape.{bodies_of}
 use Rattle.data_local.specs.Bodies.{AreLocalsByBody}
 use Rattle.nest_check.specs.Declarations.{first_of_each, names_of, place_of_name}
 use Rattle.nest_check.specs.Entries.{scheduler_scalars}

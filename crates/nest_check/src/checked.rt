@@ -1,9 +1,9 @@
-ghost use Rattle.std.specs.Prelude.{◌≡◌, ◌<◌, ◌≤◌, ◌^◌, ◌↔◌, length, sum, IsTrue, IfOk};
+ghost use Rattle.std.specs.Prelude.{◌≡◌, ◌<◌, ◌≤◌, ◌^◌, ◌↔◌, length, sum, IsTrue, IfOk, IfSome};
 ghost use Rattle.nest_syntax.specs.Named.{IsWellNamed};
 ghost use Rattle.nest_syntax.specs.Arrays.{arrays_of, sizes_of, array_names, array_of};
 ghost use Rattle.nest_check.specs.Declarations.{first_of_each};
 ghost use Rattle.nest_check.specs.Entries.{scheduler_scalars};
-ghost use Rattle.nest_syntax.specs.Course.{bodies_of};
+ghost use Rattle.nest_syntax.specs.Shape.{bodies_of};
 ghost use Rattle.data_local.specs.DataLocals.{IsDataLocal};
 ghost use Rattle.data_local.specs.Bodies.{body_numbered};
 ghost use Rattle.nest_check.specs.Kept.{KeepsRules};
@@ -120,12 +120,14 @@ impl Checked {
     }
 
     /// The number of the scheduler scalar with this name, in the order in which names are first declared. None comes
-    /// exactly where no scheduler scalar has it.
+    /// exactly where no scheduler scalar has it. There are at most 32.
     pub fn scalar_of(&self, name: u32) -> Option<u32>
-        ensures { result ≡ scalar_of self.now name }
+        ensures number { result ≡ scalar_of self.now name }
+        ensures few { IfSome result (λ scalar. scalar < 32) }
     {
         self.scalars.get(name as usize).copied().unwrap_or(None)
     }
+
     /// Whether a name is a data local of the body with this number. An array statement has none, and neither has a
     /// number from that of the bodies on.
     pub fn is_data(&self, body: u32, name: u32) -> bool

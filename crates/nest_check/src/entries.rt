@@ -1,7 +1,8 @@
 ghost use Rattle.std.specs.Prelude.{◌≡◌, ◌==◌, ◌||◌, nat_lt, length, OnOk, IfOk, map};
 ghost use Rattle.std.specs.List.{flat_map};
 ghost use Rattle.nest_check.specs.Through.{through};
-ghost use Rattle.nest_check.specs.Entries.{Declares, statements, statements_of, statements_in_arm, statements_in_loop};
+ghost use Rattle.nest_syntax.specs.Shape.{Declares, body_of_loop};
+ghost use Rattle.nest_check.specs.Entries.{statements, statements_of, statements_in_arm, statements_in_loop};
 ghost use Rattle.nest_check.specs.Rules.{is_large_body};
 ghost use Rattle.nest_check.specs.Noted.{counted, entered};
 
@@ -46,7 +47,7 @@ impl Tally {
 
 /// Whether the body of an invocation has too many statements or too many names of locals.
 pub(crate) fn is_large_body(alloc: Global, invoked: &Loop) -> Result<bool, NoMemory>
-    ensures { IfOk result (λ large. large ≡ is_large_body invoked.now) }
+    ensures { IfOk result (λ large. large ≡ is_large_body (body_of_loop invoked.now)) }
 {
     let mut tally = Tally {
         room: MOST_STATEMENTS + 1,

@@ -14,7 +14,7 @@ pub(crate) struct FirstNames {
 
 impl Model for FirstNames {
     ghost use Rattle.std.specs.Prelude.{List};
-    ghost use Rattle.nest_check.specs.Declarations.{Declaration};
+    ghost use Rattle.nest_syntax.specs.Shape.{Declaration};
 
     ghost Value = { List Declaration };
 

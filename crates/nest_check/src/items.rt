@@ -3,7 +3,8 @@ ghost use Rattle.std.specs.List.{flat_map};
 ghost use Rattle.lowest_line.specs.Lowest.{lowest};
 ghost use Rattle.nest_check.specs.Through.{through};
 ghost use Rattle.nest_check.specs.Declarations.{first_of_each};
-ghost use Rattle.nest_check.specs.Entries.{Plain, Declares, Invokes, items, items_of, items_in_arm, scalars_in, scheduler_scalars};
+ghost use Rattle.nest_syntax.specs.Shape.{Plain, Declares, Invokes, body_of_loop, items, items_of, items_in_arm};
+ghost use Rattle.nest_check.specs.Entries.{scalars_in, scheduler_scalars};
 ghost use Rattle.nest_check.specs.Rules.{large_regions, large_bodies};
 ghost use Rattle.nest_check.specs.Noted.{added, passed, region_begun, region_ended, region_passed};
 
@@ -40,7 +41,7 @@ impl Sizes {
     }
 
     fn invoke(&mut self, alloc: Global, invoked: &Loop) -> Result<(), NoMemory>
-        ensures { OnOk result (self.new ≡ passed self.old (Invokes invoked.now)) }
+        ensures { OnOk result (self.new ≡ passed self.old (Invokes (body_of_loop invoked.now))) }
     {
         self.tally.count();
         if is_large_body(alloc, invoked)? {

@@ -3,7 +3,8 @@ ghost use Rattle.lowest_line.specs.Lowest.{lower_of};
 ghost use Rattle.nest_check.specs.Declarations.{first_of_each, lines_of};
 ghost use Rattle.nest_check.specs.Entries.{scheduler_scalars};
 ghost use Rattle.nest_check.specs.Rules.{first_behind};
-ghost use Rattle.nest_check.specs.Broken.{first_broken, IsBroken};
+ghost use Rattle.nest_check.specs.Noted.{first_broken};
+ghost use Rattle.nest_check.specs.Broken.{IsBroken};
 
 use crate::arrays::{lowest_beyond_64, lowest_wrong_length};
 use crate::first_names::FirstNames;

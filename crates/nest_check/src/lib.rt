@@ -18,5 +18,5 @@ mod refused;
 mod tables;
 
 pub use checked::Checked;
-pub use checking::check;
+pub use checking::{check, one_judgement};
 pub use refused::CheckRefused;

@@ -1,9 +1,9 @@
-ghost use Rattle.std.specs.Prelude.{◌≡◌, map};
+ghost use Rattle.std.specs.Prelude.{◌≡◌, ℕ, map};
 ghost use Rattle.lowest_line.specs.Lowest.{lowest, lines_where};
 ghost use Rattle.nest_check.specs.Through.{through};
 ghost use Rattle.nest_check.specs.Parts.{ALoop, AnExpression, all_at, parts, parts_in_arm, parts_in_loop};
 ghost use Rattle.nest_check.specs.Rules.{parts_of, wrong_steps, deep_loops, part_line, is_deep};
-ghost use Rattle.nest_check.specs.Noted.{noted};
+ghost use Rattle.nest_check.specs.Noted.{noted, counted_depth};
 
 use crate::expressions::is_deeper;
 use lowest_line::Lowest;
@@ -15,7 +15,7 @@ const MOST_LEVELS: u32 = 4;
 
 const MOST_DEPTH: u32 = 16;
 
-/// The lowest lines of loops with a wrong step, of loops with no level left, and of expressions that are too deep.
+/// The lowest lines of loops with a wrong step, of loops that stand too deep, and of expressions that are too deep.
 #[derive(Debug, Drop)]
 pub(crate) struct Breaches {
     pub steps: Lowest,
@@ -24,13 +24,13 @@ pub(crate) struct Breaches {
 }
 
 impl Breaches {
-    fn note_loop(&mut self, line: Line, step: u64, levels: u32)
-        ensures { self.new ≡ noted self.old (ALoop line step levels) }
+    fn note_loop(&mut self, line: Line, step: u64, depth: u32)
+        ensures { self.new ≡ noted self.old (ALoop line step depth) }
     {
         if step == 0 || MOST_STEP < step {
             self.steps.note(line);
         }
-        if levels == 0 {
+        if MOST_LEVELS < depth {
             self.levels.note(line);
         }
     }
@@ -60,25 +60,25 @@ pub(crate) fn part_breaches(program: &Program) -> Breaches
 }
 
 fn walk_regions(regions: &[Loop], found: &mut Breaches)
-    ensures { found.new ≡ through noted found.old (all_at (map parts_in_loop regions.now) 4) }
+    ensures { found.new ≡ through noted found.old (all_at (map parts_in_loop regions.now) 1) }
 {
     for region in regions {
-        walk_loop(region, MOST_LEVELS, found);
+        walk_loop(region, 1, found);
     }
 }
 
 #[cycle(walk)]
-fn walk_block(stmts: &[Stmt], levels: u32, found: &mut Breaches)
-    ensures { found.new ≡ through noted found.old (all_at (map parts stmts.now) levels) }
+fn walk_block(stmts: &[Stmt], depth: u32, found: &mut Breaches)
+    ensures { (at : ℕ) → depth ≡ counted_depth at → found.new ≡ through noted found.old (all_at (map parts stmts.now) at) }
 {
     for stmt in stmts {
-        walk_stmt(stmt, levels, found);
+        walk_stmt(stmt, depth, found);
     }
 }
 
 #[cycle(walk)]
-fn walk_stmt(stmt: &Stmt, levels: u32, found: &mut Breaches)
-    ensures { found.new ≡ through noted found.old (parts stmt.now levels) }
+fn walk_stmt(stmt: &Stmt, depth: u32, found: &mut Breaches)
+    ensures { (at : ℕ) → depth ≡ counted_depth at → found.new ≡ through noted found.old (parts stmt.now at) }
 {
     match stmt {
         Stmt::Declare { line, value, .. } => found.note_expression(*line, value),
@@ -93,29 +93,29 @@ fn walk_stmt(stmt: &Stmt, levels: u32, found: &mut Breaches)
             found.note_expression(*line, value)
         }
         Stmt::If { arms, other } => {
-            walk_arms(arms.as_slice(), levels, found);
-            walk_block(other.as_slice(), levels, found)
+            walk_arms(arms.as_slice(), depth, found);
+            walk_block(other.as_slice(), depth, found)
         }
-        Stmt::Loop(inner) => walk_loop(inner, levels, found),
+        Stmt::Loop(inner) => walk_loop(inner, depth, found),
     }
 }
 
 #[cycle(walk)]
-fn walk_arms(arms: &[Arm], levels: u32, found: &mut Breaches)
-    ensures { found.new ≡ through noted found.old (all_at (map parts_in_arm arms.now) levels) }
+fn walk_arms(arms: &[Arm], depth: u32, found: &mut Breaches)
+    ensures { (at : ℕ) → depth ≡ counted_depth at → found.new ≡ through noted found.old (all_at (map parts_in_arm arms.now) at) }
 {
     for arm in arms {
         found.note_expression(arm.line, &arm.test);
-        walk_block(arm.body.as_slice(), levels, found);
+        walk_block(arm.body.as_slice(), depth, found);
     }
 }
 
 #[cycle(walk)]
-fn walk_loop(inner: &Loop, levels: u32, found: &mut Breaches)
-    ensures { found.new ≡ through noted found.old (parts_in_loop inner.now levels) }
+fn walk_loop(inner: &Loop, depth: u32, found: &mut Breaches)
+    ensures { (at : ℕ) → depth ≡ counted_depth at → found.new ≡ through noted found.old (parts_in_loop inner.now at) }
 {
-    found.note_loop(inner.line, inner.step, levels);
+    found.note_loop(inner.line, inner.step, depth);
     found.note_expression(inner.line, &inner.low);
     found.note_expression(inner.line, &inner.high);
-    walk_block(inner.body.as_slice(), levels.saturating_sub(1), found)
+    walk_block(inner.body.as_slice(), depth.saturating_add(1), found)
 }

@@ -1,5 +1,5 @@
 -- A text says one thing, and so does an input.
-use Rattle.std.proofs.Common.{◌≡◌, ℕ, Option, Some, None, Result, Ok, Err, List, refl, sym, ap, ◌∙◌, subst, arith}
+use Rattle.std.proofs.Common.{◌≡◌, ℕ, Option, Some, None, Result, Ok, Err, List, sym, ap, ◌∙◌, subst}
 use Rattle.nest_syntax.specs.declared.names.Line.{Line}
 use Rattle.nest_syntax.specs.declared.tree.Program.{Program}
 use Rattle.nest_lex.specs.declared.token.Spot.{Spot}
@@ -10,8 +10,8 @@ use Rattle.nest_lex.proofs.OneAnswer.{same_tokens, same_fault, no_fault}
 use Rattle.nest_lex.proofs.OneDivision.{one_division}
 use Rattle.nest_parse.specs.Grammar.{Derives, IsFaultAt}
 use Rattle.nest_parse.proofs.Unique.{unique}
-use Rattle.data_local.specs.Bounds.{HasDataBound, IsLowest}
-use Rattle.nest_check.specs.Broken.{IsBroken, first_broken, judged}
+use Rattle.nest_check.specs.Broken.{IsBroken}
+use Rattle.nest_check.proofs.OneJudgement.{one_broken}
 use Rattle.nest_input.specs.declared.refused.Refusal.{Refusal}
 use Rattle.nest_input.specs.declared.refused.Refusal.TheVariants as refusal
 use Rattle.word_store.specs.Memory.{Memory}
@@ -19,20 +19,6 @@ use Rattle.nest_syntax.specs.Arrays.{arrays_of}
 use Rattle.nest_data.specs.Data.{data_of}
 use Rattle.nest_input.specs.Input.{IsNest, no_tokens, no_program, no_rules, a_nest, SaysNest, SaysWords, token_refusal, spot_at, nest_in, data_in, words_said}
 use Rattle.nest_input.proofs.OneFault.{one_fault}
-
--- of the lines that break a rule one is the lowest
-one_lowest : (Breaks : Line → Type 0) (found other : Option Line) → IsLowest Breaks found → IsLowest Breaks other → found ≡ other
-one_lowest Breaks None None is is' = refl
-one_lowest Breaks None (Some line) is is' = absurd (is line is'.0)
-one_lowest Breaks (Some line) None is is' = absurd (is' line is.0)
-one_lowest Breaks (Some line) (Some other) is is' =
-    let same : line.0 ≡ other.0 = omega (arith, is.1 other is'.0, is'.1 line is.0) in
-    λ i. Some (record { 0 = same i })
-
--- what is broken is one rule with one line, or nothing
-pub one_broken : (program : Program) (found other : Option (ℕ × Line)) → IsBroken program found → IsBroken program other → found ≡ other
-one_broken program found other is is' =
-    is.found_is ∙ ap (λ inner. first_broken (judged program inner)) (one_lowest (HasDataBound program) is.inner is'.inner is.inner_is is'.inner_is) ∙ sym is'.found_is
 
 some_none : {A : Type 0} (a : A) → Some a ≡ None → ⊥
 some_none a e = cc

@@ -10,11 +10,11 @@ use Rattle.nest_syntax.specs.declared.tree.Loop.{Loop}
 use Rattle.nest_syntax.specs.declared.tree.Stmt.{Stmt}
 use Rattle.nest_syntax.specs.declared.tree.Stmt.TheVariants as stmt
 use Rattle.nest_syntax.specs.declared.tree.Program.{Program}
-use Rattle.nest_syntax.specs.Course.{Item, Tested, in_order, chosen, item_of, region_of, setting_of, bodies_of, tested_of}
+use Rattle.nest_syntax.specs.Course.{Item, Tested, in_order, chosen, item_of, region_of, bodies_of, tested_of}
 use Rattle.nest_syntax.specs.Outcome.{body_at}
 use Rattle.nest_syntax.proofs.Equations.{item-declare, item-assign, item-write, item-if, item-loop}
+use Rattle.nest_syntax.proofs.Shapes.{regions_same}
 use Rattle.nest_mean.specs.Numbered.{bare, at_number, bodies_in_item, bodies_in_items, bodies_in_arm, bodies_in_region}
-use Rattle.nest_mean.proofs.Sameness.{same_regions}
 use Rattle.nest_mean.proofs.Walk.{map_second, region-is, invocation-is, tested_of-is}
 
 pub stands_in_front : {A : Type 0} (xs ys : List A) (n : ℕ) (x : A) → at_number xs n ≡ Ok x → at_number (xs ++ ys) n ≡ Ok x
@@ -77,7 +77,7 @@ if_bodies arms other = ap (λ (t : Item). t.bodies) (item-if bare arms other ∙
 
 -- the bodies of a program are those of its regions
 pub program_bodies : (program : Program) → bodies_of program ≡ flat_map bodies_in_region program.regions
-program_bodies program = same_regions (setting_of program []) bare program.regions ∙ in_order-bodies (region_of bare) program.regions
+program_bodies program = sym (regions_same bare program.regions) ∙ in_order-bodies (region_of bare) program.regions
 
 stands_at : (bodies : List (List Stmt)) (n : ℕ) (body : List Stmt) → at_number bodies n ≡ Ok body → body_at bodies n ≡ body
 stands_at [] n body is = cc

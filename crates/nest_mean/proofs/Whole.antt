@@ -3,21 +3,22 @@ use Rattle.std.proofs.Common.{◌≡◌, ℕ, ◌+◌, ◌*◌, ◌^◌, ◌<◌
 use Rattle.nest_syntax.specs.declared.tree.Loop.{Loop}
 use Rattle.nest_syntax.specs.declared.tree.Program.{Program}
 use Rattle.nest_syntax.specs.Arrays.{arrays_of}
-use Rattle.nest_syntax.specs.Course.{Item, in_order, region_of, setting_of, bodies_of, opening_scalars, End}
+use Rattle.nest_syntax.specs.Course.{Item, in_order, region_of, bodies_of, opening_scalars, End}
 use Rattle.word_store.specs.Memory.{Memory}
 use Rattle.nest_syntax.specs.declared.place.Place.{Place}
 use Rattle.nest_mean.specs.declared.outcomes.Outcome.TheVariants as outcomes
 use Rattle.nest_mean.specs.Nest.{Nest, CanRun}
 use Rattle.nest_mean.specs.Outcomes.{as_outcome, outcome}
 use Rattle.nest_mean.specs.CourseParts.{Stand, Passes, setting_on}
-use Rattle.nest_mean.proofs.Sameness.{same_regions, stand_all}
+use Rattle.nest_syntax.proofs.Shapes.{regions_same}
+use Rattle.nest_mean.proofs.Sameness.{stand_all}
 
 module _ (nest : Nest) (runs : CanRun nest) where
   abbrev regions : Item
   regions = in_order (map (region_of (setting_on nest.program.decls nest.opening.words)) nest.program.regions)
 
   bodies_are : bodies_of nest.program ≡ regions.bodies
-  bodies_are = same_regions (setting_of nest.program []) (setting_on nest.program.decls nest.opening.words) nest.program.regions
+  bodies_are = sym (regions_same (setting_on nest.program.decls nest.opening.words) nest.program.regions)
 
   pub regions_room : (n : ℕ) → n ≡ 0 → n + 281474976710656 * length regions.bodies < 2 ^ 64
   regions_room n none = let same : length (bodies_of nest.program) ≡ length regions.bodies = ap length bodies_are in omega (arith, none, same, runs.few_bodies)

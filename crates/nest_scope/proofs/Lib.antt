@@ -3,3 +3,4 @@ pub mod Lowest
 pub mod Equations
 pub mod Nodes
 pub mod Steps
+pub mod Entered

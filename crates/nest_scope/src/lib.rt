@@ -6,10 +6,12 @@
 #![tactic(auto)]
 
 mod breaches;
+mod law;
 mod occurrences;
 mod scopes;
 mod walk;
 
 pub use breaches::ScopeBreaches;
+pub use law::names_in_bodies_are_bound;
 pub use occurrences::{Action, Binding, Level, Occurrence};
 pub use walk::scope_breaches;

@@ -1,5 +1,5 @@
 ghost use Rattle.std.specs.Prelude.{◌≡◌, IfOk, OnOk, map};
-ghost use Rattle.lowest_line.specs.Lowest.{lowest};
+ghost use Rattle.lowest_line.specs.Lowest.{IsLowestOf};
 ghost use Rattle.nest_scope.specs.declared.occurrences.Level.TheVariants as level;
 ghost use Rattle.nest_scope.specs.Occurrences.{bound, occurrence, read_in, in_stmt, in_arm, in_loop, in_block, in_decl, in_decls, in_regions, behind_decls, in_same_scope};
 ghost use Rattle.nest_scope.specs.Rules.{lines_redeclared, lines_unknown, lines_const_written, lines_loop_variable_assigned, lines_scheduler_scalar_assigned};
@@ -15,11 +15,11 @@ use std::alloc::Global;
 /// The lowest line that breaks each of the rules on names, found in one walk over the program: its time grows with the
 /// size of the program, whatever its names. Each rule is judged by itself, also where another one is broken.
 pub fn scope_breaches(alloc: Global, program: &Program) -> Result<ScopeBreaches, NoMemory>
-    ensures redeclared { IfOk result (λ found. found.redeclared ≡ lowest (lines_redeclared program.now)) }
-    ensures unknown { IfOk result (λ found. found.unknown ≡ lowest (lines_unknown program.now)) }
-    ensures const_written { IfOk result (λ found. found.const_written ≡ lowest (lines_const_written program.now)) }
-    ensures loop_variable { IfOk result (λ found. found.loop_variable_assigned ≡ lowest (lines_loop_variable_assigned program.now)) }
-    ensures scheduler_scalar { IfOk result (λ found. found.scheduler_scalar_assigned ≡ lowest (lines_scheduler_scalar_assigned program.now)) }
+    ensures redeclared { IfOk result (λ found. IsLowestOf (lines_redeclared program.now) found.redeclared) }
+    ensures unknown { IfOk result (λ found. IsLowestOf (lines_unknown program.now) found.unknown) }
+    ensures const_written { IfOk result (λ found. IsLowestOf (lines_const_written program.now) found.const_written) }
+    ensures loop_variable { IfOk result (λ found. IsLowestOf (lines_loop_variable_assigned program.now) found.loop_variable_assigned) }
+    ensures scheduler_scalar { IfOk result (λ found. IsLowestOf (lines_scheduler_scalar_assigned program.now) found.scheduler_scalar_assigned) }
 {
     let mut scope = Scope::unbound(alloc, program.names.len())?;
     let mut found = Found::new();

@@ -1,3 +1,5 @@
 pub mod Equations
 pub mod Places
 pub mod Reckoned
+pub mod Shapes
+pub mod Inductions

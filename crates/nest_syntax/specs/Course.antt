@@ -1,6 +1,5 @@
--- What the scheduler does: the course of a program, a tree of its events. A region is a loop at depth 1; its statements,
--- also inside its `if`s, are its items. An item that is a loop or an array statement is an invocation of a body; the
--- others are carried out by the scheduler. Bodies are numbered from 0 in textual order.
+-- What the scheduler does: the course of a program, a tree of its events. An item that invokes a body is told by the
+-- body's number; the others are carried out by the scheduler.
 use Rattle.std.specs.Prelude.{ℕ, zero, suc, ◌+◌, ℤ, pos, if◌then◌else◌, Result, Ok, Err, List, [], ◌∷◌, ◌++◌, map, length, replicate}
 use Rattle.std.specs.List.{list_any}
 use Rattle.nest_syntax.specs.declared.names.Line.{Line}
@@ -18,6 +17,7 @@ use Rattle.nest_syntax.specs.declared.tree.Program.{Program}
 use Rattle.nest_syntax.specs.Words.{is_zero, operation_of, assigned, turns, counted, variable}
 use Rattle.nest_syntax.specs.Arrays.{Array, arrays_of}
 use Rattle.nest_syntax.specs.Value.{value, and_then, scalar_at, with_scalar, names_written}
+pub use Rattle.nest_syntax.specs.Shape.{bodies_of}
 
 -- what a computing event is for: the header of an invocation, or anything else
 pub data Purpose : Type 0 where
@@ -47,8 +47,8 @@ computed line (Err cause) go = Failed cause line
 abbrev pub event : {A : Type 0} → Setting → Purpose → List ℤ → Line → List Expr → (List ℤ → Result A Cause) → (A → Course) → Course
 event setting purpose scalars line exprs compute go = if list_any (names_written setting.arrays) exprs then Drain purpose scalars (λ words. computed line (compute words) go) else Scalar purpose scalars (computed line (compute setting.words) go)
 
--- What an item is: the bodies that it holds, in textual order, and its events, from the number of its first body and
--- the scalars, before what follows.
+-- What an item is: the bodies that it holds, in textual order, which its events number, and its events, from the number of
+-- its first body and the scalars, before what follows.
 pub record Item : Type 0 where
   pub bodies : List (List Stmt)
   pub events : ℕ → List ℤ → (List ℤ → Course) → Course
@@ -168,10 +168,6 @@ setting_of program words = record { arrays = arrays_of program.decls; words = wo
 
 abbrev pub whole_of : Program → List ℤ → Item
 whole_of program words = in_order (map (region_of (setting_of program words)) program.regions)
-
--- the bodies of a program, in textual order
-abbrev pub bodies_of : Program → List (List Stmt)
-bodies_of program = (whole_of program []).bodies
 
 -- the course of a program on these opening words
 abbrev pub course_of : Program → List ℤ → Course

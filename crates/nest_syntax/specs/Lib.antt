@@ -5,6 +5,7 @@ pub mod Value
 pub mod Locals
 pub mod Turn
 pub mod Reads
+pub mod Shape
 pub mod Course
 pub mod Outcome
 pub mod Named

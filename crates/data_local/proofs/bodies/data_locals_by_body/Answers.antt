@@ -1,10 +1,10 @@
 use Rattle.std.proofs.Common.{◌≡◌, List, map, take, ap, ◌∙◌, subst}
 use Rattle.std.proofs.lemmas.List.{take_all}
 use Rattle.nest_syntax.specs.Arrays.{Array, arrays_of}
-use Rattle.nest_syntax.specs.Course.{bodies_of}
+use Rattle.nest_syntax.specs.Shape.{bodies_of}
 use Rattle.data_local.specs.Givings.{Giving, givings}
 use Rattle.data_local.specs.Written.{TellsWritten}
-use Rattle.data_local.proofs.BodyNodes.{Kept, kept_next, all_kept}
+use Rattle.data_local.proofs.BodyNodes.{Kept, kept_next, all_kept, map_then}
 use Rattle.data_local.proofs.bodies.data_locals_by_body.Goals as goal
 
 pub loop-body-preserved : goal.loop-body-preserved
@@ -16,6 +16,6 @@ loop-body-preserved c =
 pub returns : goal.returns
 returns c =
     let all : map (λ x. givings x.now) (take c.loop-body.body-index c.deref-body-items.result.now) ≡ map givings (bodies_of c.args.program.now) =
-    ap (map (λ x. givings x.now)) (take_all _ _ c.loop-body-test.false ∙ c.deref-body-items.ensures.value) ∙ c.in_ok-bodies.ensures in
+    ap (map (λ x. givings x.now)) (take_all _ _ c.loop-body-test.false ∙ c.deref-body-items.ensures.value) ∙ map_then (λ x. x.now) givings c.in_ok-bodies.bodies.items ∙ ap (map givings) c.in_ok-bodies.ensures in
     all_kept (arrays_of c.args.program.now.decls) (bodies_of c.args.program.now) _
     (subst (λ (gs : List (List Giving)). Kept (arrays_of c.args.program.now.decls) gs c.loop-body.lists.items) all c.loop-body.invariant)

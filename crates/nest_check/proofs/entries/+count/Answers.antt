@@ -1,7 +1,8 @@
 use Rattle.std.proofs.Common.{sym, ap, ◌∙◌}
 use Rattle.std.specs.List.{flat_map}
 use Rattle.nest_check.specs.Through.{through}
-use Rattle.nest_check.specs.Entries.{Declares, statements, statements_of, statements_in_arm}
+use Rattle.nest_syntax.specs.Shape.{Declares}
+use Rattle.nest_check.specs.Entries.{statements, statements_of, statements_in_arm}
 use Rattle.nest_check.specs.Noted.{entered}
 use Rattle.nest_check.proofs.Lists.{flat_more, flat_end}
 use Rattle.nest_check.proofs.EntryNodes.{statements_in_arm-is, statements_in_loop-is, statements-if}

@@ -2,11 +2,12 @@ use Rattle.std.proofs.Common.{◌≡◌, sym, ap, ◌∙◌, subst}
 use Rattle.std.specs.Prelude.{OnOk}
 use Rattle.std.specs.List.{flat_map}
 use Rattle.nest_check.specs.Through.{through}
-use Rattle.nest_check.specs.Entries.{items, items_of, items_in_arm}
+use Rattle.nest_syntax.specs.Shape.{items, items_of, items_in_arm}
 use Rattle.nest_check.specs.Noted.{passed}
 use Rattle.nest_check.proofs.Lists.{flat_more, flat_end}
 use Rattle.nest_check.proofs.Room.{if_passed}
-use Rattle.nest_check.proofs.EntryNodes.{items_in_arm-is, items-declare, items-assign, items-write, items-loop, items-if}
+use Rattle.nest_syntax.proofs.Shapes.{items_in_arm-is, items-declare, items-assign, items-write, items-loop, items-if}
+use Rattle.nest_check.proofs.EntryNodes.{write_passed}
 use Rattle.nest_check.proofs.items.+pass.Goals as goal
 
 pub pass_arms-loop-arm-preserved : goal.pass_arms-loop-arm-preserved
@@ -31,7 +32,9 @@ pub pass_item-returns-in-Assign : goal.pass_item-returns-in-Assign
 pass_item-returns-in-Assign t c = c.count.ensures ∙ ap (through passed c.args.sizes.now) (sym (ap items c.in-Assign.is ∙ items-assign c.in-Assign.line c.in-Assign.name c.in-Assign.op c.in-Assign.value))
 
 pub pass_item-returns-in-Write : goal.pass_item-returns-in-Write
-pass_item-returns-in-Write t c = c.count-in-Write.ensures ∙ ap (through passed c.args.sizes.now) (sym (ap items c.in-Write.is ∙ items-write c.in-Write.line c.in-Write.array c.in-Write.place c.in-Write.op c.in-Write.value))
+pass_item-returns-in-Write t c =
+    c.count-in-Write.ensures ∙ write_passed c.args.sizes.now c.in-Write.line c.in-Write.array c.in-Write.place c.in-Write.op c.in-Write.value
+    ∙ ap (through passed c.args.sizes.now) (sym (ap items c.in-Write.is ∙ items-write c.in-Write.line c.in-Write.array c.in-Write.place c.in-Write.op c.in-Write.value))
 
 pub pass_item-returns-in-Loop : goal.pass_item-returns-in-Loop
 pass_item-returns-in-Loop t c =

@@ -1,7 +1,7 @@
 use Rattle.std.proofs.Common.{◌≡◌, drop}
 use Rattle.std.specs.List.{flat_map}
 use Rattle.nest_check.specs.Through.{through}
-use Rattle.nest_check.specs.Entries.{items, items_in_arm}
+use Rattle.nest_syntax.specs.Shape.{items, items_in_arm}
 use Rattle.nest_check.specs.Noted.{passed}
 use Rattle.nest_check.proofs.items.+pass.Given as goal
 

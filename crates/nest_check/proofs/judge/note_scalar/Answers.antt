@@ -1,4 +1,4 @@
-use Rattle.nest_check.specs.Declarations.{Declaration}
+use Rattle.nest_syntax.specs.Shape.{Declaration}
 use Rattle.nest_check.proofs.Lines.{noted_at, none_noted}
 use Rattle.nest_check.proofs.judge.note_scalar.Goals as goal
 

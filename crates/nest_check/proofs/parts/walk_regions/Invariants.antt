@@ -5,4 +5,4 @@ use Rattle.nest_check.specs.Noted.{noted}
 use Rattle.nest_check.proofs.parts.walk_regions.Given as goal
 
 abbrev pub invariant-loop-region : goal.invariant-loop-region
-invariant-loop-region l = through noted l.found (all_at (map parts_in_loop (drop l.region-index l.regions)) 4) ≡ through noted l.fn.found (all_at (map parts_in_loop l.regions) 4)
+invariant-loop-region l = through noted l.found (all_at (map parts_in_loop (drop l.region-index l.regions)) 1) ≡ through noted l.fn.found (all_at (map parts_in_loop l.regions) 1)

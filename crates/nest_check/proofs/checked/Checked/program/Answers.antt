@@ -1,6 +1,6 @@
 use Rattle.std.proofs.Common.{◌≤◌, ◌<◌, ◌^◌, length, sum, subst, arith}
 use Rattle.nest_syntax.specs.Arrays.{arrays_of, sizes_of}
-use Rattle.nest_syntax.specs.Course.{bodies_of}
+use Rattle.nest_syntax.specs.Shape.{bodies_of}
 use Rattle.nest_syntax.specs.declared.tree.Program.{Program}
 use Rattle.nest_check.proofs.Distinct.{few_decls}
 use Rattle.nest_check.proofs.Few.{few_words}
