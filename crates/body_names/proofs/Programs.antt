@@ -16,6 +16,7 @@ use Rattle.nest_syntax.specs.declared.tree.Stmt.TheOpen.{Stmt-F, Arm-F, Loop-F}
 use Rattle.nest_syntax.specs.declared.tree.Stmt.TheFolds.{map-Stmt, map-Arm, map-Loop, ind-Loop, fold-roll-Stmt, fold-roll-Arm, fold-roll-Loop, para-roll-Stmt, para-roll-Arm, para-roll-Loop}
 use Rattle.nest_syntax.specs.declared.tree.Program.{Program}
 use Rattle.nest_syntax.specs.Course.{Setting, Item, Tested, Looped, in_order, chosen, item_node, tested_node, looped_node, item_of, tested_of, looped_of, region_of, setting_of}
+use Rattle.nest_syntax.proofs.Shapes.{regions_same}
 use Rattle.lowest_line.specs.Lowest.{lines_where}
 use Rattle.nest_scope.specs.declared.occurrences.Binding.TheVariants as binding
 use Rattle.nest_scope.specs.declared.occurrences.Level.{Level}
@@ -294,6 +295,6 @@ names_in_bodies program once known =
     let scope = behind_decls program.decls opening in
     let kept : KeepsNames (occurrences_of program) = record { once = none_breaks redeclares (occurrences_of program) once; known = none_breaks uses_unknown (occurrences_of program) known } in
     let all : Each Keeps (begun_of program) = regions_keep program.regions scope (keeps_right (in_decls program.decls opening) (in_regions program.regions scope) kept) in record {
-      bodies = same_regions (setting_of program []) program.regions scope;
+      bodies = same_regions (setting_of program []) program.regions scope ∙ regions_same (setting_of program []) program.regions;
       names = λ number b at name. names_are b.body b.scope (each_at Keeps (begun_of program) number b at all) name;
     }
