@@ -16,7 +16,7 @@ mod tables;
 mod token_steps;
 mod value;
 
-pub use parser::parse;
+pub use parser::{one_program, parse};
 pub use refused::ParseRefused;
 
 #[cfg(test)]
