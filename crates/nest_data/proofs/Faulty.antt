@@ -1,22 +1,21 @@
 -- What is read of data lines is what is said of them line by line.
-use Rattle.std.proofs.Common.{◌≡◌, ℕ, suc, ◌+◌, ◌<◌, ◌≤◌, ◌==◌, ◌||◌, ◌&&◌, not, ℤ, Bool, true, false, Option, Some, None, Result, Ok, Err, List, [], ◌∷◌, ◌++◌, length, get_or, take, drop, drop-cons, set, slice_index_or, if◌then◌else◌, refl, sym, ap, ◌∙◌, subst, inl, inr, arith}
+use Rattle.std.proofs.Common.{◌≡◌, ℕ, suc, ◌+◌, ◌<◌, ◌==◌, ◌||◌, ◌&&◌, not, ℤ, Bool, true, false, Option, Some, None, Result, Ok, Err, List, [], ◌∷◌, ◌++◌, length, take, drop, drop-cons, set, slice_index_or, if◌then◌else◌, refl, sym, ap, ◌∙◌, subst, inl, inr, arith}
 use Rattle.std.specs.Prelude.{is_some}
 use Rattle.std.specs.List.{list_all}
 use Rattle.std.specs.Option.{option_map, option_and_then, ok_or}
 use Rattle.std.specs.Result.{result_map_both}
 use Rattle.std.specs.Str.{bytes_eq}
 use Rattle.std.proofs.Math.Seq.{take-suc}
-use Rattle.std.proofs.lemmas.Bool.{false≢true, cases_lt, eq-eqb}
+use Rattle.std.proofs.lemmas.Bool.{false≢true, cases_lt}
 use Rattle.std.proofs.lemmas.Slice.Eq.{bytes_eq-Decides}
 use Rattle.std.proofs.lemmas.List.{get_or-set_same, get_or-set_other, get_or_past, length-set, length-drop, length-map, length-replicate, get_or-replicate}
 use Rattle.std.proofs.lemmas.List.Folds.{list_any-append}
 use Rattle.std.proofs.lemmas.List.Quantifiers.{position-Some}
 use Rattle.nest_syntax.specs.Arrays.{Array, sizes_of, array_names}
-use Rattle.word_store.specs.Memory.{Memory}
 use Rattle.nest_data.specs.Lines.{lines_of, words_of}
 use Rattle.nest_data.specs.Values.{value_of}
 use Rattle.nest_data.specs.Data.{Read, array_named, values_of, counted, with_array, and_then, behind_values, behind_words, opening, outcome, data_of}
-use Rattle.nest_data.specs.Faults.{begins_with, has_line, fault_of, fault_in, fault_at, IsFirstFault, Judges}
+use Rattle.nest_data.specs.Faults.{begins_with, has_line, fault_of, fault_in, fault_at, Judges}
 use Rattle.nest_data.specs.declared.refused.DataKind.{DataKind}
 use Rattle.nest_data.specs.declared.refused.DataKind.TheVariants as kind
 

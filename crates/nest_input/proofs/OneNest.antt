@@ -1,5 +1,5 @@
 -- A text says one thing, and so does an input.
-use Rattle.std.proofs.Common.{◌≡◌, ℕ, Option, Some, None, Result, Ok, Err, List, refl, sym, ap, ◌∙◌, subst, arith}
+use Rattle.std.proofs.Common.{◌≡◌, ℕ, Option, Some, None, Result, Ok, Err, List, sym, ap, ◌∙◌, subst}
 use Rattle.nest_syntax.specs.declared.names.Line.{Line}
 use Rattle.nest_syntax.specs.declared.tree.Program.{Program}
 use Rattle.nest_lex.specs.declared.token.Spot.{Spot}
