@@ -4,3 +4,4 @@ pub mod Kept
 pub mod Placed
 pub mod Told
 pub mod Writing
+pub mod Faulty

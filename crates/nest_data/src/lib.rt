@@ -13,5 +13,5 @@ mod refused;
 mod values;
 
 pub use print::print_words;
-pub use read::{read_data, words_are_of_lines};
+pub use read::{faults_are_of_lines, read_data, words_are_of_lines};
 pub use refused::{DataKind, DataRefused};

@@ -4,6 +4,7 @@ ghost use Rattle.word_store.specs.Memory.{Memory};
 ghost use Rattle.nest_data.specs.Data.{data_of, Tells};
 ghost use Rattle.nest_data.specs.Lines.{lines_of};
 ghost use Rattle.nest_data.specs.OfLines.{AreOfLines};
+ghost use Rattle.nest_data.specs.Faults.{Judges};
 
 use crate::progress::Progress;
 use crate::refused::DataRefused;
@@ -42,4 +43,10 @@ pub fn read_data(
 pub fn words_are_of_lines()
     ensures { (names : List (List ℕ)) (arrays : List Array) (line : ℕ) (bytes : List ℕ) (memory : Memory)
         → data_of names arrays line bytes ≡ Ok memory → AreOfLines names arrays (lines_of bytes) memory }
+{}
+
+/// Where words are given no line is faulty. Else the line that is told is faulty, its fault is the first one that it
+/// has, and no earlier line is faulty.
+pub fn faults_are_of_lines()
+    ensures { (names : List (List ℕ)) (arrays : List Array) (line : ℕ) (bytes : List ℕ) → Judges names arrays line (lines_of bytes) (data_of names arrays line bytes) }
 {}

@@ -1,4 +1,3 @@
 pub mod Places
-pub mod OneFault
 pub mod OneNest
 pub mod Told

@@ -9,19 +9,17 @@ use Rattle.nest_lex.specs.Text.{AreTokens}
 use Rattle.nest_lex.proofs.OneAnswer.{same_tokens, same_fault, no_fault}
 use Rattle.nest_lex.proofs.OneDivision.{one_division}
 use Rattle.nest_parse.specs.Grammar.{Derives, IsFaultAt}
+use Rattle.nest_parse.proofs.OneFault.{one_fault}
 use Rattle.nest_parse.proofs.Unique.{unique}
 use Rattle.nest_check.specs.Broken.{IsBroken}
-use Rattle.nest_check.proofs.OneJudgement.{one_broken}
+use Rattle.nest_check.proofs.Judged.{keeps_all}
+use Rattle.nest_check.proofs.OneJudgement.{one_broken, never_both}
 use Rattle.nest_input.specs.declared.refused.Refusal.{Refusal}
 use Rattle.nest_input.specs.declared.refused.Refusal.TheVariants as refusal
 use Rattle.word_store.specs.Memory.{Memory}
 use Rattle.nest_syntax.specs.Arrays.{arrays_of}
 use Rattle.nest_data.specs.Data.{data_of}
 use Rattle.nest_input.specs.Input.{IsNest, no_tokens, no_program, no_rules, a_nest, SaysNest, SaysWords, token_refusal, spot_at, nest_in, data_in, words_said}
-use Rattle.nest_input.proofs.OneFault.{one_fault}
-
-some_none : {A : Type 0} (a : A) → Some a ≡ None → ⊥
-some_none a e = cc
 
 abbrev rule_refusal : Option (ℕ × Line) → Refusal → Refusal
 rule_refusal None otherwise = otherwise
@@ -59,12 +57,12 @@ module _ (text : List ℕ) where
       e ∙ ap (λ f. Err (rule_refusal f (refusal.Rule rule line))) found ∙ sym e'
   same_nest said other (no_rules tokens program rule line are derives broken e) (a_nest tokens' program' are' derives' kept e') =
       let same = same_program tokens tokens' program program' are derives are' derives' in
-      absurd (some_none (rule, line) (one_broken program' (Some (rule, line)) None (subst (λ p. IsBroken p (Some (rule, line))) same broken) kept))
+      absurd (never_both program' rule line (subst (λ p. IsBroken p (Some (rule, line))) same broken) (keeps_all program' kept))
   same_nest said other (a_nest tokens program are derives kept e) (no_tokens kind at fault e') = absurd (no_fault text tokens kind at are fault)
   same_nest said other (a_nest tokens program are derives kept e) (no_program tokens' n are' f e') = absurd (faultless tokens' tokens n program are' f are derives)
   same_nest said other (a_nest tokens program are derives kept e) (no_rules tokens' program' rule line are' derives' broken e') =
       let same = same_program tokens tokens' program program' are derives are' derives' in
-      absurd (some_none (rule, line) (one_broken program' (Some (rule, line)) None broken (subst (λ p. IsBroken p None) same kept)))
+      absurd (never_both program' rule line broken (keeps_all program' (subst (λ p. IsBroken p None) same kept)))
   same_nest said other (a_nest tokens program are derives kept e) (a_nest tokens' program' are' derives' kept' e') =
       e ∙ ap (λ p. Ok p) (same_program tokens tokens' program program' are derives are' derives') ∙ sym e'
 

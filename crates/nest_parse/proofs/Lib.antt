@@ -10,3 +10,4 @@ pub mod Listing
 pub mod Blocks
 pub mod WellNamed
 pub mod Parsed
+pub mod OneFault

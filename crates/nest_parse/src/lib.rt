@@ -16,5 +16,5 @@ mod tables;
 mod token_steps;
 mod value;
 
-pub use parser::parse;
+pub use parser::{one_program, parse};
 pub use refused::ParseRefused;

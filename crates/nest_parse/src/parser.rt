@@ -1,8 +1,10 @@
 //! The parser of the whole language.
-ghost use Rattle.std.specs.Prelude.{◌≡◌, ◌∷◌, ◌<◌, length, IfOk, IfErr, IsSome, OnOk};
+ghost use Rattle.std.specs.Prelude.{◌≡◌, ◌∷◌, ◌<◌, ℕ, List, length, IfOk, IfErr, IsSome, OnOk};
 ghost use Rattle.nest_syntax.specs.declared.tree.Program.{Program};
 ghost use Rattle.nest_syntax.specs.Named.{IsWellNamed};
 ghost use Rattle.nest_lex.specs.Text.{AreWellNamed};
+ghost use Rattle.nest_lex.specs.declared.token.Token.{Token};
+ghost use Rattle.nest_lex.specs.declared.token.Tokens.{Tokens};
 ghost use Rattle.nest_parse.specs.Grammar as grammar;
 ghost use Rattle.nest_parse.specs.Machine as machine;
 
@@ -85,3 +87,10 @@ pub fn parse(alloc: Global, tokens: &Tokens) -> Result<Program, ParseRefused>
         Err(Stop::NoMemory) => Err(ParseRefused::NoMemory),
     }
 }
+
+/// A list of tokens has one program or one fault, and never both.
+pub fn one_program()
+    ensures program { (tokens : Tokens) (program other : Program) → grammar.Derives tokens program → grammar.Derives tokens other → program ≡ other }
+    ensures fault { (tokens : List Token) (at other : ℕ) → grammar.IsFaultAt tokens at → grammar.IsFaultAt tokens other → at ≡ other }
+    ensures never_both { (tokens : Tokens) (program : Program) (at : ℕ) → grammar.Derives tokens program → grammar.IsFaultAt tokens.list at → ⊥ }
+{}

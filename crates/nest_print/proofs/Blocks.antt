@@ -16,8 +16,8 @@ use Rattle.nest_lex.specs.declared.token.Token.{Token}
 use Rattle.nest_parse.specs.Grammar.{greatest, shift, line, IsExpr, IsLevel, IsStep, behind, by, IsStatement, declares, assigns, writes, chooses, turns, IsArm, an_arm, IsElses, no_else, else_if, last_else, IsLoop, a_loop, IsStatements, no_statement, statement}
 use Rattle.nest_print.specs.declared.print.Standing.TheVariants.{Alone, Bound}
 use Rattle.nest_print.specs.Canonical.{expr_text, name_text, statement_text, one_arm_text, region_text, all_shown, block_text, further_text, other_text, step_text}
-use Rattle.nest_print.specs.Same as same
-use Rattle.nest_print.specs.Same.{IsSameStmt, AreSameStmts, IsSameArm, AreSameArms, IsSameLoop}
+use Rattle.nest_print.proofs.Agreed as same
+use Rattle.nest_print.proofs.Agreed.{AgreeStmt, AgreeStmts, AgreeArm, AgreeArms, AgreeLoop}
 use Rattle.nest_print.proofs.Left.{Left, moved, past}
 use Rattle.nest_print.proofs.Takes.{place, take_name, take_number, take_keyword, take_mark, take_lone}
 use Rattle.nest_print.proofs.Shown.{if_text, inner_text, turns_text}
@@ -75,10 +75,10 @@ if_split indent first further other rest = simp append_assoc
 
 module _ (old : List (List ℕ)) (text : List ℕ) (names : List (List ℕ)) where
   abbrev Body : List Stmt → Type 0
-  Body body = Returns old text names IsStatements (AreSameStmts old names) body (λ indent. all_shown indent (map (statement_text old) body))
+  Body body = Returns old text names IsStatements (AgreeStmts old names) body (λ indent. all_shown indent (map (statement_text old) body))
 
   read_loop : (on : Line) (n : ℕ) (low high : Expr) (through : Bool) (step : ℕ) (body : List Stmt) → IsName (name_text old n) → step ≤ greatest → Comes old text names low → Comes old text names high → Body body
-      → Returns old text names IsLoop (IsSameLoop old names) (record { line = on; name = n; low = low; high = high; through = through; step = step; body = body })
+      → Returns old text names IsLoop (AgreeLoop old names) (record { line = on; name = n; low = low; high = high; through = through; step = step; body = body })
       (region_text old (record { line = on; name = n; low = low; high = high; through = through; step = step; body = body }))
   read_loop on n low high through step body name small from to read indent blanks rest tokens left =
       let u = compared_of through in
@@ -108,7 +108,7 @@ module _ (old : List (List ℕ)) (text : List ℕ) (names : List (List ℕ)) whe
         is = subst (λ ts. IsLoop ts made body'.more) (sym (after k.are (after opened.are (after l.are (after first.took.are a.are)))))
             (a_loop (subst (λ ts. IsExpr a.more b.back ts) (after end.are (after second.took.are c.are)) b.is) u.found (subst (λ ts. IsLevel shift c.more h.back ts) end'.are h.is)
             (subst (λ ts. IsStep (place names bytes) end'.more step ts) (after closed.are body'.is.are) s.is) body'.is.is);
-        same = same.a_loop (sym first.is) b.same h.same body'.same;
+        same = same.a_loop (record { name = name; is = first.is }) b.same h.same body'.same;
         left = past 10 refl body'.left;
       }
 
@@ -131,7 +131,7 @@ module _ (old : List (List ℕ)) (text : List ℕ) (names : List (List ℕ)) whe
         left = b.left;
       }
 
-  arm_else : (next : Arm) (arms : List Arm) (other : List Stmt) → Returns old text names If_arm (IsSameArm old names) next (one_arm_text old next) → Elses_return old text names arms other
+  arm_else : (next : Arm) (arms : List Arm) (other : List Stmt) → Returns old text names If_arm (AgreeArm old names) next (one_arm_text old next) → Elses_return old text names arms other
       → Elses_return old text names (next ∷ arms) other
   arm_else next arms other arm further indent blanks rest tokens left =
       let k = take_keyword word.Else refl (past 32 refl (moved (else_split (one_arm_text old next indent) (further_text indent (map (one_arm_text old) arms)) (other_text indent (map (statement_text old) other) ++ rest)) left)) in
@@ -147,8 +147,8 @@ module _ (old : List (List ℕ)) (text : List ℕ) (names : List (List ℕ)) whe
         left = f.left;
       }
 
-  read_if : (first : Arm) (arms : List Arm) (other : List Stmt) → Returns old text names If_arm (IsSameArm old names) first (one_arm_text old first) → Elses_return old text names arms other
-      → Returns old text names IsStatement (IsSameStmt old names) (stmt.If (first ∷ arms) other) (statement_text old (stmt.If (first ∷ arms) other))
+  read_if : (first : Arm) (arms : List Arm) (other : List Stmt) → Returns old text names If_arm (AgreeArm old names) first (one_arm_text old first) → Elses_return old text names arms other
+      → Returns old text names IsStatement (AgreeStmt old names) (stmt.If (first ∷ arms) other) (statement_text old (stmt.If (first ∷ arms) other))
   read_if first arms other arm further indent blanks rest tokens left =
       let split = ap (λ x. x ++ rest) (if_text old (first ∷ arms) other indent)
       ∙ if_split indent (one_arm_text old first indent) (further_text indent (map (one_arm_text old) arms)) (other_text indent (map (statement_text old) other)) rest in
@@ -162,7 +162,7 @@ module _ (old : List (List ℕ)) (text : List ℕ) (names : List (List ℕ)) whe
         left = past 10 refl f.left;
       }
 
-  read_turns : (l : Loop) → Returns old text names IsLoop (IsSameLoop old names) l (region_text old l) → Returns old text names IsStatement (IsSameStmt old names) (stmt.Loop l) (statement_text old (stmt.Loop l))
+  read_turns : (l : Loop) → Returns old text names IsLoop (AgreeLoop old names) l (region_text old l) → Returns old text names IsStatement (AgreeStmt old names) (stmt.Loop l) (statement_text old (stmt.Loop l))
   read_turns l read indent blanks rest tokens left =
       let b = read indent blanks rest tokens (moved (ap (λ x. x ++ rest) (inner_text old l indent)) left) in
       record { back = stmt.Loop b.back; more = b.more; is = turns b.is; same = same.turns b.same; left = b.left }
@@ -170,14 +170,14 @@ module _ (old : List (List ℕ)) (text : List ℕ) (names : List (List ℕ)) whe
   none_shown : Body []
   none_shown indent blanks rest tokens left = record { back = []; more = tokens; is = no_statement; same = same.no_stmt; left = left }
 
-  more_shown : (x : Stmt) (xs : List Stmt) → Returns old text names IsStatement (IsSameStmt old names) x (statement_text old x) → Body xs → Body (x ∷ xs)
+  more_shown : (x : Stmt) (xs : List Stmt) → Returns old text names IsStatement (AgreeStmt old names) x (statement_text old x) → Body xs → Body (x ∷ xs)
   more_shown x xs one many indent blanks rest tokens left =
       let a = one indent blanks _ tokens (moved (append_assoc (statement_text old x indent) (all_shown indent (map (statement_text old) xs)) rest) left) in
       let b = many indent blanks rest a.more a.left in
       record { back = a.back ∷ b.back; more = b.more; is = statement a.is b.is; same = same.one_stmt a.same b.same; left = b.left }
 
   mutual
-    statement_back : {ts r : List Token} {x : Stmt} → IsStatement ts x r → AllNames old ts → Returns old text names IsStatement (IsSameStmt old names) x (statement_text old x) × AllNames old r
+    statement_back : {ts r : List Token} {x : Stmt} → IsStatement ts x r → AllNames old ts → Returns old text names IsStatement (AgreeStmt old names) x (statement_text old x) × AllNames old r
     statement_back (declares {n = n} {e = e} x) h = let v = value_printable old x h.1.1.1 in (read_declare old text names n e _ h.1.0 (comes old text names v.0), v.1.1)
     statement_back (assigns {n = n} {o = o} {e = e} u x) h = let v = value_printable old x h.1.1 in (read_assign old text names n o e _ h.0 (comes old text names v.0), v.1.1)
     statement_back (writes {n = n} {o = o} {place = p} {e = e} x u y) h =
@@ -190,7 +190,7 @@ module _ (old : List (List ℕ)) (text : List ℕ) (names : List (List ℕ)) whe
         (read_if first arms other f.0 g.0, g.1)
     statement_back (turns {l = l} x) h = let v = loop_back x h in (read_turns l v.0, v.1)
 
-    arm_back : {s : Spot} {ts r : List Token} {x : Arm} → IsArm s ts x r → AllNames old ts → Returns old text names If_arm (IsSameArm old names) x (one_arm_text old x) × AllNames old r
+    arm_back : {s : Spot} {ts r : List Token} {x : Arm} → IsArm s ts x r → AllNames old ts → Returns old text names If_arm (AgreeArm old names) x (one_arm_text old x) × AllNames old r
     arm_back (an_arm {e = e} {body = body} x xs) h =
         let v = value_printable old x h.1 in
         let w = statements_back xs v.1.1.1 in
@@ -204,7 +204,7 @@ module _ (old : List (List ℕ)) (text : List ℕ) (names : List (List ℕ)) whe
         (arm_else next arms other f.0 g.0, g.1)
     elses_back (last_else {other = other} xs) h = let w = statements_back xs h.1.1 in (block_else other w.0, w.1.1)
 
-    pub loop_back : {ts r : List Token} {x : Loop} → IsLoop ts x r → AllNames old ts → Returns old text names IsLoop (IsSameLoop old names) x (region_text old x) × AllNames old r
+    pub loop_back : {ts r : List Token} {x : Loop} → IsLoop ts x r → AllNames old ts → Returns old text names IsLoop (AgreeLoop old names) x (region_text old x) × AllNames old r
     loop_back (a_loop {n = n} {step = step} {through = through} {low = low} {high = high} {body = body} x c y s xs) h =
         let u = value_printable old x h.1.1.1.1.1 in
         let v = level_printable old y u.1.1.1.1 in

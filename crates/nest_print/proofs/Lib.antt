@@ -7,6 +7,8 @@ pub mod Takes
 pub mod Shown
 pub mod Signs
 pub mod Printable
+pub mod Said
+pub mod Agreed
 pub mod Values
 pub mod Statements
 pub mod Blocks

@@ -1,8 +1,12 @@
 -- The canonical text of a program is read back as the same program.
-use Rattle.std.proofs.Common.{◌≡◌, ℕ, zero, suc, ◌≤◌, ℤ, pos, neg_ℤ, true, false, List, [], ◌∷◌, ◌++◌, get_or, map, refl, sym, ap, subst, arith, append_assoc, codes}
-use Rattle.std.specs.List.{flat_map, fold}
+use Rattle.std.proofs.Common.{◌≡◌, ◌≢◌, ℕ, zero, suc, ◌<◌, ◌≤◌, ℤ, pos, neg_ℤ, true, false, List, [], ◌∷◌, ◌++◌, length, get_or, map, refl, sym, ap, ◌∙◌, subst, inl, inr, arith, append_assoc, codes}
+use Rattle.std.specs.List.{AllPairs, flat_map, fold}
 use Rattle.std.specs.Fmt.{decimal, signed_decimal}
-use Rattle.std.proofs.lemmas.List.{append-nil}
+use Rattle.std.specs.Str.{bytes_eq}
+use Rattle.std.proofs.lemmas.Bool.{cases_lt, false_from_ne_true}
+use Rattle.std.proofs.lemmas.List.{append-nil, get_or_past}
+use Rattle.std.proofs.lemmas.List.Sums.{fold-append, position_or_len_is}
+use Rattle.std.proofs.lemmas.Slice.Eq.{bytes_eq-Decides}
 use Rattle.nest_syntax.specs.declared.names.Line.{Line}
 use Rattle.nest_syntax.specs.declared.tree.Decl.{Decl}
 use Rattle.nest_syntax.specs.declared.tree.Decl.TheVariants as decl
@@ -12,7 +16,7 @@ use Rattle.nest_lex.specs.Bytes.{is_word_byte}
 use Rattle.nest_lex.specs.Load.{no_load, load_after}
 use Rattle.nest_lex.specs.Reader.{AllKnown, IsKnown}
 use Rattle.nest_lex.specs.Spelling.{Spells, IsName}
-use Rattle.nest_lex.specs.Text.{Lexeme, Whole, Reads, AreTokens, bytes_of, names_of, names_with, kind_of, token_of}
+use Rattle.nest_lex.specs.Text.{Lexeme, Whole, Reads, AreTokens, bytes_of, names_of, names_with, with_name, kind_of, token_of, tokens_of}
 use Rattle.nest_lex.specs.declared.load.Load.{Load}
 use Rattle.nest_lex.specs.declared.piece.Piece.{Piece}
 use Rattle.nest_lex.specs.declared.piece.Piece.TheVariants as piece
@@ -20,13 +24,15 @@ use Rattle.nest_lex.specs.declared.token.Keyword.TheVariants as word
 use Rattle.nest_lex.specs.declared.token.Mark.TheVariants as mark
 use Rattle.nest_lex.specs.declared.token.Token.{Token}
 use Rattle.nest_lex.specs.declared.token.Tokens.{Tokens}
-use Rattle.nest_lex.proofs.Numbering.{names_grow, known_more, piece_known}
-use Rattle.nest_parse.specs.Grammar.{greatest, line, IsSigned, positive, negative, IsDecl, an_array, a_fixed_array, a_scalar, AreDecls, no_decl, declaration, AreLoops, no_loop, a_region}
+use Rattle.nest_lex.proofs.Numbering.{names_grow, known_more, piece_known, same_bytes}
+use Rattle.nest_parse.specs.Grammar.{greatest, line, IsSigned, positive, negative, IsDecl, an_array, a_fixed_array, a_scalar, AreDecls, no_decl, declaration, AreLoops, no_loop, a_region, AreProgram}
 use Rattle.nest_print.specs.Canonical.{name_text, region_text, decl_text, all_shown, canonical_text}
-use Rattle.nest_print.specs.Same as same
-use Rattle.nest_print.specs.Same.{IsSameDecl, AreSameDecls, IsSameLoop, AreSameLoops, IsSame, IsSpelled, ComesBack}
+use Rattle.nest_print.proofs.Agreed as same
+use Rattle.nest_print.proofs.Said.{in_all, in_decl, in_loop, in_kind, in_tokens, program_said}
+use Rattle.nest_print.proofs.Agreed.{AreNumbered, AgreeDecl, AgreeDecls, AgreeLoop, AgreeLoops}
+use Rattle.nest_print.specs.Same.{IsSpelled, ComesBack}
 use Rattle.nest_print.proofs.Left.{Left, moved, past, at_end}
-use Rattle.nest_print.proofs.Takes.{place, place_is, take_name, take_number, take_keyword, take_mark, take_lone}
+use Rattle.nest_print.proofs.Takes.{place, place_is, name_some, take_name, take_number, take_keyword, take_mark, take_lone}
 use Rattle.nest_print.proofs.Printable.{IsNamed, AllNames}
 use Rattle.nest_print.proofs.Values.{first_of_number}
 use Rattle.nest_print.proofs.Statements.{outer, after, Returned}
@@ -104,7 +110,7 @@ module _ (old : List (List ℕ)) (text : List ℕ) (names : List (List ℕ)) whe
   abbrev Read_back : {X : Type 0} → (List Token → X → List Token → Type 0) → (X → X → Type 0) → X → List ℕ → Type 0
   Read_back Is Same x shown = (rest : List ℕ) (tokens : List Token) → Left text names tokens (shown ++ rest) → Returned old text names Is Same x tokens rest
 
-  read_array : (on : Line) (n c : ℕ) → IsName (name_text old n) → c ≤ greatest → Read_back IsDecl (IsSameDecl old names) (decl.Array on n c false) (decl_text old (decl.Array on n c false))
+  read_array : (on : Line) (n c : ℕ) → IsName (name_text old n) → c ≤ greatest → Read_back IsDecl (AgreeDecl old names) (decl.Array on n c false) (decl_text old (decl.Array on n c false))
   read_array on n c name small rest tokens left =
       let k = take_keyword word.Long refl (moved (array_split (codes "long ") (name_text old n) (codes "[") (decimal c) (codes "];\n") rest) left) in
       let t = take_name (name_text old n) name refl (past 32 refl k.left) in
@@ -116,11 +122,11 @@ module _ (old : List (List ℕ)) (text : List ℕ) (names : List (List ℕ)) whe
         back = decl.Array (line k.spot) (place names (name_text old n)) c false;
         more = end.more;
         is = subst (λ ts. IsDecl ts (decl.Array (line k.spot) (place names (name_text old n)) c false) end.more) (sym (after k.are (after t.took.are (after opened.are (after count.are (after closed.are end.are)))))) (an_array small);
-        same = same.array (sym t.is);
+        same = same.array (record { name = name; is = t.is });
         left = past 10 refl end.left;
       }
 
-  read_fixed : (on : Line) (n c : ℕ) → IsName (name_text old n) → c ≤ greatest → Read_back IsDecl (IsSameDecl old names) (decl.Array on n c true) (decl_text old (decl.Array on n c true))
+  read_fixed : (on : Line) (n c : ℕ) → IsName (name_text old n) → c ≤ greatest → Read_back IsDecl (AgreeDecl old names) (decl.Array on n c true) (decl_text old (decl.Array on n c true))
   read_fixed on n c name small rest tokens left =
       let f = take_keyword word.Const refl (moved (fixed_split (codes "const ") (codes "long ") (name_text old n) (codes "[") (decimal c) (codes "];\n") rest) left) in
       let k = take_keyword word.Long refl (past 32 refl f.left) in
@@ -134,11 +140,11 @@ module _ (old : List (List ℕ)) (text : List ℕ) (names : List (List ℕ)) whe
         more = end.more;
         is = subst (λ ts. IsDecl ts (decl.Array (line f.spot) (place names (name_text old n)) c true) end.more)
             (sym (after f.are (after k.are (after t.took.are (after opened.are (after count.are (after closed.are end.are))))))) (a_fixed_array small);
-        same = same.array (sym t.is);
+        same = same.array (record { name = name; is = t.is });
         left = past 10 refl end.left;
       }
 
-  read_scalar : (on : Line) (n : ℕ) (z : ℤ) → IsName (name_text old n) → Reads_signed text names z → Read_back IsDecl (IsSameDecl old names) (decl.Scalar on n z) (decl_text old (decl.Scalar on n z))
+  read_scalar : (on : Line) (n : ℕ) (z : ℤ) → IsName (name_text old n) → Reads_signed text names z → Read_back IsDecl (AgreeDecl old names) (decl.Scalar on n z) (decl_text old (decl.Scalar on n z))
   read_scalar on n z name read rest tokens left =
       let k = take_keyword word.Long refl (moved (array_split (codes "long ") (name_text old n) (codes " = ") (signed_decimal z) (codes ";\n") rest) left) in
       let t = take_name (name_text old n) name refl (past 32 refl k.left) in
@@ -149,16 +155,16 @@ module _ (old : List (List ℕ)) (text : List ℕ) (names : List (List ℕ)) whe
         back = decl.Scalar (line k.spot) (place names (name_text old n)) z;
         more = end.more;
         is = subst (λ ts. IsDecl ts (decl.Scalar (line k.spot) (place names (name_text old n)) z) end.more) (sym (after k.are (after t.took.are a.are))) (a_scalar (subst (λ ts. IsSigned a.more z ts) end.are s.is));
-        same = same.scalar_of (sym t.is);
+        same = same.a_scalar (record { name = name; is = t.is });
         left = past 10 refl end.left;
       }
 
-  decl_back : {ts r : List Token} {x : Decl} → IsDecl ts x r → AllNames old ts → Read_back IsDecl (IsSameDecl old names) x (decl_text old x) × AllNames old r
+  decl_back : {ts r : List Token} {x : Decl} → IsDecl ts x r → AllNames old ts → Read_back IsDecl (AgreeDecl old names) x (decl_text old x) × AllNames old r
   decl_back (an_array {n = n} {c = c} small) h = (read_array _ n c h.1.0 small, h.1.1.1.1.1.1)
   decl_back (a_fixed_array {n = n} {c = c} small) h = (read_fixed _ n c h.1.1.0 small, h.1.1.1.1.1.1.1)
   decl_back (a_scalar {n = n} {z = z} x) h = let r = signed_good old x h.1.1.1 in (read_scalar _ n z h.1.0 (read_signed text names x), r.1)
 
-  decls_back : {ts r : List Token} {xs : List Decl} → AreDecls ts xs r → AllNames old ts → Read_back AreDecls (AreSameDecls old names) xs (flat_map (decl_text old) xs) × AllNames old r
+  decls_back : {ts r : List Token} {xs : List Decl} → AreDecls ts xs r → AllNames old ts → Read_back AreDecls (AgreeDecls old names) xs (flat_map (decl_text old) xs) × AllNames old r
   decls_back no_decl h = (λ rest tokens left. record { back = []; more = tokens; is = no_decl; same = same.no_decl; left = left }, h)
   decls_back (declaration {x = x} {xs = xs} y ys) h =
       let v = decl_back y h in
@@ -170,7 +176,7 @@ module _ (old : List (List ℕ)) (text : List ℕ) (names : List (List ℕ)) whe
         w.1,
       )
 
-  loops_back : {ts r : List Token} {xs : List Loop} → AreLoops ts xs r → AllNames old ts → Read_back AreLoops (AreSameLoops old names) xs (all_shown [] (map (region_text old) xs)) × AllNames old r
+  loops_back : {ts r : List Token} {xs : List Loop} → AreLoops ts xs r → AllNames old ts → Read_back AreLoops (AgreeLoops old names) xs (all_shown [] (map (region_text old) xs)) × AllNames old r
   loops_back no_loop h = (λ rest tokens left. record { back = []; more = tokens; is = no_loop; same = same.no_loop; left = left }, h)
   loops_back (a_region {x = x} {xs = xs} y ys) h =
       let v = loop_back old text names y h in
@@ -186,10 +192,50 @@ module _ (old : List (List ℕ)) (text : List ℕ) (names : List (List ℕ)) whe
 whole_left : (text : List ℕ) (lexemes : List Lexeme) → Reads text 0 no_load lexemes Whole → Left text (names_of text lexemes) (map (token_of text (names_of text lexemes)) lexemes) text
 whole_left text lexemes reads = record { at = 0; load = no_load; lexemes = lexemes; reads = reads; known = all_known text lexemes []; are = refl; within = omega arith; here = refl }
 
-pub comes_back : (program : Program) (again : Tokens) → IsSpelled program → AreTokens (canonical_text program) again → ComesBack program again
-comes_back program again spelled are =
+-- a token has the bytes of its lexeme
+kind_bytes : (names seen : List (List ℕ)) (bytes : List ℕ) (p : Piece) → IsKnown names bytes p → names_with seen bytes p ≡ fold with_name seen (in_kind names (kind_of names bytes p))
+kind_bytes names seen bytes piece.Name known = ap (with_name seen) (sym (place_is bytes names known))
+kind_bytes names seen bytes (piece.Number n) known = refl
+kind_bytes names seen bytes (piece.Keyword k) known = refl
+kind_bytes names seen bytes (piece.Mark m) known = refl
+
+-- the names of a text are those of its tokens, in the order of their first appearance
+after_said : (text : List ℕ) (names seen : List (List ℕ)) (lexemes : List Lexeme) → AllKnown text names lexemes
+    → after_lexemes text seen lexemes ≡ fold with_name seen (in_tokens names (map (token_of text names) lexemes))
+after_said text names seen [] known = refl
+after_said text names seen (l ∷ ls) known =
+    after_said text names (names_with seen (bytes_of text l) l.is) ls known.1
+    ∙ ap (λ ns. fold with_name ns (in_tokens names (map (token_of text names) ls))) (kind_bytes names seen (bytes_of text l) l.is known.0)
+    ∙ sym (fold-append with_name seen (in_kind names (kind_of names (bytes_of text l) l.is)) (in_tokens names (map (token_of text names) ls)))
+
+-- the names of a program, in the order of their first appearance
+abbrev first_said : List (List ℕ) → List Decl → List Loop → List (List ℕ)
+first_said names decls regions = fold with_name [] (in_all (map (in_decl names) decls) ++ in_all (map (in_loop names) regions))
+
+said_first : (text : List ℕ) (tokens : Tokens) {decls : List Decl} {regions : List Loop} → AreTokens text tokens → AreProgram tokens.list decls regions → tokens.names ≡ first_said tokens.names decls regions
+said_first text tokens are spelled =
+    subst (λ (t : Tokens). t.names ≡ fold with_name [] (in_tokens t.names t.list)) (sym are.are) (after_said text (names_of text are.lexemes) [] are.lexemes (all_known text are.lexemes []))
+    ∙ ap (fold with_name []) (program_said tokens.names spelled)
+
+inside : (names : List (List ℕ)) (n : ℕ) → IsName (name_text names n) → n < length names
+inside names n name = elim (cases_lt n (length names)) [
+  | inl less ↦ less
+  | inr over ↦ absurd (omega (arith, name_some (name_text names n) name, ap length (get_or_past names n [] over)))
+]
+
+-- where no two names are alike, a name stands at its number
+numbered : (names : List (List ℕ)) → AllPairs (λ a b. a ≢ b) names → AreNumbered names names
+numbered names differ n name =
+    let there = inside names n name in
+    position_or_len_is (bytes_eq (name_text names n)) names n [] (omega arith)
+    (λ k below. false_from_ne_true (bytes_eq (name_text names n) (get_or names k [])) (λ same. differ k n [] below there (sym ((bytes_eq-Decides (name_text names n) (get_or names k [])).0 same))))
+    (λ less. same_bytes (name_text names n))
+
+pub comes_back : (program : Program) (again : Tokens) → AllPairs (λ a b. a ≢ b) program.names → IsSpelled program → AreTokens (canonical_text program) again → ComesBack program again
+comes_back program again differ spelled are =
     let text = canonical_text program in
     let names = names_of text are.lexemes in
+    let tokens : Tokens = tokens_of text are.lexemes in
     let shown = all_shown [] (map (region_text program.names) program.regions) in
     let good = subst (λ ns. AllNames ns spelled.tokens.list) (sym spelled.derives.names) (tokens_named spelled.text spelled.tokens spelled.are) in
     let spells = spelled.derives.spelled in
@@ -197,12 +243,18 @@ comes_back program again spelled are =
     let ls = loops_back program.names text names spells.looped ds.1 in
     let a = ds.0 shown (map (token_of text names) are.lexemes) (whole_left text are.lexemes are.read) in
     let b = ls.0 [] a.more (moved (sym (append-nil shown)) a.left) in
+    let read : AreProgram tokens.list a.back b.back = record { middle = a.more; declared = a.is; looped = subst (λ ts. AreLoops a.more b.back ts) (at_end b.left) b.is } in
+    let before : program.names ≡ first_said program.names program.decls program.regions =
+    subst (λ ns. ns ≡ first_said ns program.decls program.regions) (sym spelled.derives.names) (said_first spelled.text spelled.tokens spelled.are spells) in
+    let behind : names ≡ first_said names a.back b.back = said_first text tokens (record { lexemes = are.lexemes; read = are.read; are = refl }) read in
+    let same : program.names ≡ names = before ∙ (λ i. fold with_name [] (a.same.spoken i ++ b.same.spoken i)) ∙ sym behind in
+    let keeps : AreNumbered program.names names = subst (λ ns. AreNumbered program.names ns) same (numbered program.names differ) in
     subst (ComesBack program) (sym are.are) (record {
       back = record { names = names; decls = a.back; regions = b.back };
-      derives = record { names = refl; spelled = record { middle = a.more; declared = a.is; looped = subst (λ ts. AreLoops a.more b.back ts) (at_end b.left) b.is } };
-      same = record { decls = a.same; regions = b.same };
+      derives = record { names = refl; spelled = read };
+      same = record { names = same; decls = a.same.equal keeps; regions = b.same.equal keeps };
     })
 
 -- the same of bytes that are this text
-pub printed_comes_back : {program : Program} {out : List ℕ} {again : Tokens} → out ≡ canonical_text program → IsSpelled program → AreTokens out again → ComesBack program again
-printed_comes_back {program} {out} {again} same spelled are = comes_back program again spelled (subst (λ text. AreTokens text again) same are)
+pub printed_comes_back : {program : Program} {out : List ℕ} {again : Tokens} → AllPairs (λ a b. a ≢ b) program.names → out ≡ canonical_text program → IsSpelled program → AreTokens out again → ComesBack program again
+printed_comes_back {program} {out} {again} differ same spelled are = comes_back program again differ spelled (subst (λ text. AreTokens text again) same are)

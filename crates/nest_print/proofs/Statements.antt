@@ -12,8 +12,8 @@ use Rattle.nest_lex.specs.declared.token.Token.{Token}
 use Rattle.nest_parse.specs.Grammar.{greatest, line, sign, keyword, IsExpr, IsStep, behind, before, by, IsStatement, declares, assigns, writes, IsArm, an_arm, IsElses, IsStatements}
 use Rattle.nest_print.specs.declared.print.Standing.TheVariants.{Alone}
 use Rattle.nest_print.specs.Canonical.{expr_text, name_text, statement_text, one_arm_text, all_shown, block_text, further_text, other_text, deeper}
-use Rattle.nest_print.specs.Same as same
-use Rattle.nest_print.specs.Same.{IsSameStmt, AreSameStmts, IsSameArm, AreSameArms, IsSameLoop}
+use Rattle.nest_print.proofs.Agreed as same
+use Rattle.nest_print.proofs.Agreed.{AgreeStmt, AgreeStmts, AgreeArm, AgreeArms, AgreeLoop}
 use Rattle.nest_print.proofs.Left.{Left, moved, past}
 use Rattle.nest_print.proofs.Takes.{place, take_name, take_keyword, take_mark, take_lone}
 use Rattle.nest_print.proofs.Shown.{declare_text, assign_text, write_text, tested_text}
@@ -74,15 +74,15 @@ module _ (old : List (List ℕ)) (text : List ℕ) (names : List (List ℕ)) whe
     pub other' : List Stmt
     pub more : List Token
     pub is : IsElses tokens arms' other' more
-    pub same : AreSameArms old names arms arms'
-    pub same_other : AreSameStmts old names other other'
+    pub same : AgreeArms old names arms arms'
+    pub same_other : AgreeStmts old names other other'
     pub left : Left text names more rest
 
   abbrev pub Elses_return : List Arm → List Stmt → Type 0
   Elses_return arms other = (indent : List ℕ) → Blanks indent → (rest : List ℕ) → (tokens : List Token)
       → Left text names tokens (further_text indent (map (one_arm_text old) arms) ++ (other_text indent (map (statement_text old) other) ++ rest)) → Elses_returned arms other tokens rest
 
-  pub read_declare : (n : ℕ) (e : Expr) (on : _) → IsName (name_text old n) → Comes old text names e → Returns IsStatement (IsSameStmt old names) (stmt.Declare on n e) (statement_text old (stmt.Declare on n e))
+  pub read_declare : (n : ℕ) (e : Expr) (on : _) → IsName (name_text old n) → Comes old text names e → Returns IsStatement (AgreeStmt old names) (stmt.Declare on n e) (statement_text old (stmt.Declare on n e))
   read_declare n e on name value indent blanks rest tokens left =
       let split : statement_text old (stmt.Declare on n e) indent ++ rest ≡ indent ++ (codes "long " ++ (name_text old n ++ (codes " = " ++ (expr_text old e Alone ++ (codes ";\n" ++ rest))))) = ap (λ x. x ++ rest) (declare_text old on n e indent) ∙ simp append_assoc in
       let k = take_keyword word.Long refl (past_all blanks (moved split left)) in
@@ -94,11 +94,11 @@ module _ (old : List (List ℕ)) (text : List ℕ) (names : List (List ℕ)) whe
         back = stmt.Declare (line k.spot) (place names (name_text old n)) b.back;
         more = end.more;
         is = subst (λ ts. IsStatement ts (stmt.Declare (line k.spot) (place names (name_text old n)) b.back) end.more) (sym (after k.are (after t.took.are a.are))) (declares (subst (λ ts. IsExpr a.more b.back ts) end.are b.is));
-        same = same.declare (sym t.is) b.same;
+        same = same.declare (record { name = name; is = t.is }) b.same;
         left = past 10 refl end.left;
       }
 
-  pub read_assign : (n : ℕ) (o : _) (e : Expr) (on : _) → IsName (name_text old n) → Comes old text names e → Returns IsStatement (IsSameStmt old names) (stmt.Assign on n o e) (statement_text old (stmt.Assign on n o e))
+  pub read_assign : (n : ℕ) (o : _) (e : Expr) (on : _) → IsName (name_text old n) → Comes old text names e → Returns IsStatement (AgreeStmt old names) (stmt.Assign on n o e) (statement_text old (stmt.Assign on n o e))
   read_assign n o e on name value indent blanks rest tokens left =
       let u = assignment_of o in
       let split : statement_text old (stmt.Assign on n o e) indent ++ rest ≡ indent ++ (name_text old n ++ 32 ∷ (mark_text u.sign ++ 32 ∷ (expr_text old e Alone ++ (codes ";\n" ++ rest)))) =
@@ -111,12 +111,12 @@ module _ (old : List (List ℕ)) (text : List ℕ) (names : List (List ℕ)) whe
         back = stmt.Assign (line t.took.spot) (place names (name_text old n)) o b.back;
         more = end.more;
         is = subst (λ ts. IsStatement ts (stmt.Assign (line t.took.spot) (place names (name_text old n)) o b.back) end.more) (sym (after t.took.are a.are)) (assigns u.found (subst (λ ts. IsExpr a.more b.back ts) end.are b.is));
-        same = same.assign (sym t.is) b.same;
+        same = same.assign (record { name = name; is = t.is }) b.same;
         left = past 10 refl end.left;
       }
 
   pub read_write : (n : ℕ) (p : Expr) (o : _) (e : Expr) (on : _) → IsName (name_text old n) → Comes old text names p → Comes old text names e
-      → Returns IsStatement (IsSameStmt old names) (stmt.Write on n p o e) (statement_text old (stmt.Write on n p o e))
+      → Returns IsStatement (AgreeStmt old names) (stmt.Write on n p o e) (statement_text old (stmt.Write on n p o e))
   read_write n p o e on name subscript value indent blanks rest tokens left =
       let u = assignment_of o in
       let split : statement_text old (stmt.Write on n p o e) indent ++ rest ≡ indent ++ (name_text old n ++ 91 ∷ (expr_text old p Alone ++ 93 ∷ 32 ∷ (mark_text u.sign ++ 32 ∷ (expr_text old e Alone ++ (codes ";\n" ++ rest))))) =
@@ -133,13 +133,13 @@ module _ (old : List (List ℕ)) (text : List ℕ) (names : List (List ℕ)) whe
         more = end.more;
         is = subst (λ ts. IsStatement ts (stmt.Write (line t.took.spot) (place names (name_text old n)) q.back o b.back) end.more) (sym (after t.took.are opened.are))
             (writes (subst (λ ts. IsExpr opened.more q.back ts) (after closed.are a.are) q.is) u.found (subst (λ ts. IsExpr a.more b.back ts) end.are b.is));
-        same = same.write (sym t.is) q.same b.same;
+        same = same.write (record { name = name; is = t.is }) q.same b.same;
         left = past 10 refl end.left;
       }
 
   -- a block, by its statements
-  pub read_block : (body : List Stmt) → Returns IsStatements (AreSameStmts old names) body (λ indent. all_shown indent (map (statement_text old) body))
-      → Returns Block (AreSameStmts old names) body (λ indent. block_text indent (map (statement_text old) body))
+  pub read_block : (body : List Stmt) → Returns IsStatements (AgreeStmts old names) body (λ indent. all_shown indent (map (statement_text old) body))
+      → Returns Block (AgreeStmts old names) body (λ indent. block_text indent (map (statement_text old) body))
   read_block body read indent blanks rest tokens left =
       let split : block_text indent (map (statement_text old) body) ++ rest ≡ 123 ∷ 10 ∷ (all_shown (deeper indent) (map (statement_text old) body) ++ (indent ++ 125 ∷ rest)) = simp append_assoc in
       let opened = take_lone mark.OpenCurly refl (moved split left) in
@@ -156,8 +156,8 @@ module _ (old : List (List ℕ)) (text : List ℕ) (names : List (List ℕ)) whe
   arm_split : (e block rest : List ℕ) → (codes "if (" ++ e ++ codes ") " ++ block) ++ rest ≡ codes "if (" ++ (e ++ (codes ") " ++ (block ++ rest)))
   arm_split e block rest = simp append_assoc
 
-  pub read_arm : (e : Expr) (body : List Stmt) (on : _) → Comes old text names e → Returns IsStatements (AreSameStmts old names) body (λ indent. all_shown indent (map (statement_text old) body))
-      → Returns If_arm (IsSameArm old names) (record { line = on; test = e; body = body }) (one_arm_text old (record { line = on; test = e; body = body }))
+  pub read_arm : (e : Expr) (body : List Stmt) (on : _) → Comes old text names e → Returns IsStatements (AgreeStmts old names) body (λ indent. all_shown indent (map (statement_text old) body))
+      → Returns If_arm (AgreeArm old names) (record { line = on; test = e; body = body }) (one_arm_text old (record { line = on; test = e; body = body }))
   read_arm e body on test read indent blanks rest tokens left =
       let split : one_arm_text old (record { line = on; test = e; body = body }) indent ++ rest ≡ codes "if (" ++ (expr_text old e Alone ++ (codes ") " ++ (block_text indent (map (statement_text old) body) ++ rest))) =
       ap (λ x. x ++ rest) (tested_text old on e body indent) ∙ arm_split (expr_text old e Alone) (block_text indent (map (statement_text old) body)) rest in

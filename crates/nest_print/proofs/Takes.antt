@@ -46,7 +46,7 @@ opens_comment (x ∷ []) plain a (inr b) = omega arith
 opens_comment (x ∷ y ∷ more) plain a (inl b) = absurd (false≢true (sym plain ∙ ap (λ u. u == 47 && (y == 47 || y == 42)) a ∙ ap (λ v. v == 47 || v == 42) b))
 opens_comment (x ∷ y ∷ more) plain a (inr b) = absurd (false≢true (sym plain ∙ ap (λ u. u == 47 && (y == 47 || y == 42)) a ∙ ap (λ v. v == 47 || v == 42) b))
 
-name_some : (bytes : List ℕ) → IsName bytes → 1 ≤ length bytes
+pub name_some : (bytes : List ℕ) → IsName bytes → 1 ≤ length bytes
 name_some [] name = absurd (false≢true name.begins)
 name_some (b ∷ bytes) name = omega arith
 

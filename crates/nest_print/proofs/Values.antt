@@ -16,8 +16,8 @@ use Rattle.nest_parse.specs.Grammar.{greatest, shift, loosest, IsFactor, a_numbe
 use Rattle.nest_print.specs.declared.print.Standing.{Standing}
 use Rattle.nest_print.specs.declared.print.Standing.TheVariants.{Alone, Bound, Operand}
 use Rattle.nest_print.specs.Canonical.{expr_text, name_text, word_text, enclosed, is_tight, unary_text, binary_text}
-use Rattle.nest_print.specs.Same as same
-use Rattle.nest_print.specs.Same.{IsSameExpr}
+use Rattle.nest_print.proofs.Agreed as same
+use Rattle.nest_print.proofs.Agreed.{AgreeExpr}
 use Rattle.nest_print.proofs.Digits.{is_number}
 use Rattle.nest_print.proofs.Joined.{joins}
 use Rattle.nest_print.proofs.Left.{Left, moved, past}
@@ -70,7 +70,7 @@ module _ (old : List (List ℕ)) (text : List ℕ) (names : List (List ℕ)) whe
     pub back : Expr
     pub more : List Token
     pub is : Is tokens back more
-    pub same : IsSameExpr old names e back
+    pub same : AgreeExpr old names e back
     pub left : Left text names more rest
 
   -- so it is wherever these bytes are in front
@@ -130,7 +130,7 @@ module _ (old : List (List ℕ)) (text : List ℕ) (names : List (List ℕ)) whe
   read_scalar : (n : ℕ) → IsName (name_text old n) → Reader IsFactor (expr.Scalar n) (name_text old n)
   read_scalar n name rest ends tokens left =
       let t = take_name (name_text old n) name ends left in
-      record { back = expr.Scalar (place names (name_text old n)); more = t.took.more; is = subst (λ ts. IsFactor ts (expr.Scalar (place names (name_text old n))) t.took.more) (sym t.took.are) a_name; same = same.scalar (sym t.is); left = t.took.left }
+      record { back = expr.Scalar (place names (name_text old n)); more = t.took.more; is = subst (λ ts. IsFactor ts (expr.Scalar (place names (name_text old n))) t.took.more) (sym t.took.are) a_name; same = same.scalar (record { name = name; is = t.is }); left = t.took.left }
 
   word_split : (name place rest : List ℕ) → word_text name place ++ rest ≡ name ++ 91 ∷ (place ++ 93 ∷ rest)
   word_split name place rest = simp append_assoc
@@ -147,7 +147,7 @@ module _ (old : List (List ℕ)) (text : List ℕ) (names : List (List ℕ)) whe
         back = expr.Word (place names (name_text old n)) b.back;
         more = close.more;
         is = subst (λ ts. IsFactor ts (expr.Word (place names (name_text old n)) b.back) close.more) (sym front) (a_word inside);
-        same = same.word (sym t.is) b.same;
+        same = same.word (record { name = name; is = t.is }) b.same;
         left = close.left;
       }
 

@@ -434,8 +434,8 @@ fn add_decl(out: &mut Vec<u8>, names: &[Name], decl: &Decl) -> Result<(), NoMemo
 /// blocks, parentheses round each operand that isn't a number, a name or a word, and no comment.
 ///
 /// It comes back: where some text spells the program, and where the canonical text has tokens, these derive a program
-/// that is the same but for its lines and the numbering of its names. A text with long runs or many open brackets has
-/// no tokens.
+/// that is the same but for its lines; each name has its number. A text with long runs or many open brackets has no
+/// tokens.
 pub fn print_program(alloc: Global, program: &Program) -> Result<Vec<u8>, NoMemory>
     requires { IsWellNamed program.now }
     ensures canonical { IfOk result (λ out. out.items ≡ text.canonical_text program.now) }
