@@ -1,32 +1,40 @@
 //! The program `cross`: `cross_quiet` of `cross_top` over the command words and the standard streams.
 #![tactic(auto)]
 
-use cross_top::{Status, cross_quiet};
+use cross_top::{Status, cross_quiet, exit_code};
 use nest_io::{StdSink, StdSource};
 use nest_syntax::NoMemory;
 use std::env;
+use std::io::ErrorKind;
 use std::process::ExitCode;
 use std::rt::Env;
 
 fn main(rt: HostRuntime) -> ExitCode {
-    let words = match command_words(&rt) {
-        Ok(words) => words,
-        Err(NoMemory) => return ExitCode::from(Status::NoMemory as u8),
+    exit_code(cross(&rt))
+}
+
+/// A call with the words and the streams of the process.
+fn cross(rt: &HostRuntime) -> Status {
+    let Ok(words) = command_words(rt) else {
+        return Status::NoMemory;
     };
-    let mut source = StdSource::new(&rt);
-    let mut sink = StdSink::new(&rt);
+    let mut source = StdSource::new(rt);
+    let mut sink = StdSink::new(rt);
     let ended = cross_quiet(rt.alloc(), words.as_slice(), &mut source, &mut sink);
-    ExitCode::from(ended.status as u8)
+    ended.status
 }
 
 /// The words after the program's name. Where one isn't UTF-8 there are none, which the table refuses.
 fn command_words<R: Env + AllocGlobal>(rt: &R) -> Result<Vec<String>, NoMemory> {
     let mut words = Vec::new(rt.alloc());
-    let Ok(arguments) = env::args(rt) else {
-        return Ok(words);
-    };
-    for word in arguments.skip(1) {
-        words.push(word)?;
+    match env::args(rt) {
+        Ok(arguments) => {
+            for word in arguments.skip(1) {
+                words.push(word)?;
+            }
+            Ok(words)
+        }
+        Err(error) if error.kind() == ErrorKind::OutOfMemory => Err(NoMemory),
+        Err(_) => Ok(words),
     }
-    Ok(words)
 }

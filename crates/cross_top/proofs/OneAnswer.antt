@@ -6,6 +6,8 @@ use Rattle.nest_input.specs.declared.refused.Refusal.{Refusal}
 use Rattle.nest_input.specs.Input.{SaysNest, SaysWords}
 use Rattle.cross_top.specs.declared.words.Action.{Action}
 use Rattle.cross_top.specs.declared.words.Action.TheVariants.{Plain, Check, Alone}
+use Rattle.cross_top.specs.declared.words.Call.{Call}
+use Rattle.progress_board.specs.declared.options.Options.{Options}
 use Rattle.cross_top.specs.Answers.{Answer, AnswersPlain, AnswersAlone, runs, no_form, AnswersWords, AnswersData, AnswersProgram, AnswersNest, too_long, a_text, OneAnswer}
 
 -- to each list of words there is one answer
@@ -15,11 +17,11 @@ IsOne Acts = (words : List ℤ) (answer other : Answer) → Acts words answer �
 one_plain : (program : Program) → IsOne (AnswersPlain program)
 one_plain program words answer other is is' = is ∙ sym is'
 
-one_alone : (program : Program) → IsOne (AnswersAlone program)
-one_alone program words answer other (runs first is) (runs first' is') = is ∙ sym is'
-one_alone program words answer other (runs first is) (no_form none is') = absurd (none first)
-one_alone program words answer other (no_form none is) (runs first is') = absurd (none first)
-one_alone program words answer other (no_form none is) (no_form none' is') = is ∙ sym is'
+one_alone : (options : Options) (program : Program) → IsOne (AnswersAlone options program)
+one_alone options program words answer other (runs first is) (runs first' is') = is ∙ sym is'
+one_alone options program words answer other (runs first is) (no_form none is') = absurd (none first)
+one_alone options program words answer other (no_form none is) (runs first is') = absurd (none first)
+one_alone options program words answer other (no_form none is) (no_form none' is') = is ∙ sym is'
 
 of_words : (Acts : List ℤ → Answer → Type 0) → IsOne Acts → (said : Result Memory Refusal) (answer other : Answer) → AnswersWords Acts said answer → AnswersWords Acts said other → answer ≡ other
 of_words Acts one (Ok memory) answer other is is' = one memory.words answer other is is'
@@ -31,18 +33,18 @@ module _ (one_nest : (input : List ℕ) (said other : Result Program Refusal) �
   of_data Acts one input program answer other is is' =
       of_words Acts one is'.said answer other (subst (λ said. AnswersWords Acts said answer) (one_words input program is.said is'.said is.says is'.says) is.answers) is'.answers
 
-  of_program : (action : Action) (input : List ℕ) (program : Program) (answer other : Answer) → AnswersProgram action input program answer → AnswersProgram action input program other → answer ≡ other
-  of_program Plain input program answer other is is' = of_data (AnswersPlain program) (one_plain program) input program answer other is is'
-  of_program Check input program answer other is is' = is ∙ sym is'
-  of_program Alone input program answer other is is' = of_data (AnswersAlone program) (one_alone program) input program answer other is is'
+  of_program : (action : Action) (options : Options) (input : List ℕ) (program : Program) (answer other : Answer) → AnswersProgram action options input program answer → AnswersProgram action options input program other → answer ≡ other
+  of_program Plain options input program answer other is is' = of_data (AnswersPlain program) (one_plain program) input program answer other is is'
+  of_program Check options input program answer other is is' = is ∙ sym is'
+  of_program Alone options input program answer other is is' = of_data (AnswersAlone options program) (one_alone options program) input program answer other is is'
 
-  of_nest : (action : Action) (input : List ℕ) (said : Result Program Refusal) (answer other : Answer) → AnswersNest action input said answer → AnswersNest action input said other → answer ≡ other
-  of_nest action input (Ok program) answer other is is' = of_program action input program answer other is is'
-  of_nest action input (Err why) answer other is is' = is ∙ sym is'
+  of_nest : (call : Call) (input : List ℕ) (said : Result Program Refusal) (answer other : Answer) → AnswersNest call input said answer → AnswersNest call input said other → answer ≡ other
+  of_nest call input (Ok program) answer other is is' = of_program call.action call.options input program answer other is is'
+  of_nest call input (Err why) answer other is is' = is ∙ sym is'
 
   pub one_answer : OneAnswer
-  one_answer action input answer other (too_long long is) (too_long long' is') = is ∙ sym is'
-  one_answer action input answer other (too_long long is) (a_text few said says is') = absurd (omega (arith, long, few))
-  one_answer action input answer other (a_text few said says is) (too_long long is') = absurd (omega (arith, long, few))
-  one_answer action input answer other (a_text few said says is) (a_text few' said' says' is') =
-      of_nest action input said' answer other (subst (λ s. AnswersNest action input s answer) (one_nest input said said' says says') is) is'
+  one_answer call input answer other (too_long long is) (too_long long' is') = is ∙ sym is'
+  one_answer call input answer other (too_long long is) (a_text few said says is') = absurd (omega (arith, long, few))
+  one_answer call input answer other (a_text few said says is) (too_long long is') = absurd (omega (arith, long, few))
+  one_answer call input answer other (a_text few said says is) (a_text few' said' says' is') =
+      of_nest call input said' answer other (subst (λ s. AnswersNest call input s answer) (one_nest input said said' says says') is) is'

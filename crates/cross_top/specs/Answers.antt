@@ -15,10 +15,9 @@ use Rattle.cross_top.specs.declared.status.Status.{Status}
 use Rattle.cross_top.specs.declared.status.Status.TheVariants as status
 use Rattle.cross_top.specs.declared.words.Action.{Action}
 use Rattle.cross_top.specs.declared.words.Action.TheVariants.{Plain, Check, Alone}
+use Rattle.cross_top.specs.declared.words.Call.{Call}
 use Rattle.nest_mean.specs.Nest.{Nest}
 use Rattle.progress_board.specs.declared.options.Options.{Options}
-use Rattle.progress_board.specs.declared.options.Engine.TheVariants.{Domore}
-use Rattle.progress_board.specs.declared.options.Sign.TheVariants.{Range}
 use Rattle.progress_board.specs.declared.facts.Facts.{Facts}
 use Rattle.progress_board.specs.Actors.{actors_of}
 use Rattle.progress_board.specs.Rotation.{rotation}
@@ -44,27 +43,23 @@ abbrev pub printed : Program → Ending → Answer
 printed program (Done words) = record { status = status.Done; bytes = array_lines program.names (record { sizes = sizes_of (arrays_of program.decls); words = words }) 0 program.decls; history = [] }
 printed program (TrappedAt place) = record { status = status.Trapped; bytes = trap_line place; history = [] }
 
--- what `alone` runs the engine with: two workers, queues of 16
-abbrev pub alone_options : Options
-alone_options = record { engine = Domore; workers = 2; queue = 16; sign = Range; segment = 16; distance = 4 }
-
 -- a program on its opening words, as a job
 abbrev pub job_of : Program → List ℤ → Nest
 job_of program words = record { program = program; opening = record { sizes = sizes_of (arrays_of program.decls); words = words } }
 
 -- the steps of the rotation
-abbrev pub rotation_of : Nest → List ℕ
-rotation_of job = rotation step measure (opening job alone_options) (actors_of alone_options) []
+abbrev pub rotation_of : Options → Nest → List ℕ
+rotation_of options job = rotation step measure (opening job options) (actors_of options) []
 
 -- The facts of a nest that doesn't trap: counts of its events, and the waits of all its iterations. They speak of no
 -- history.
-abbrev pub facts_due : Nest → Facts
-facts_due job = report_of alone_options (facts_of (waits (setup_of job alone_options)) (nest_in job))
+abbrev pub facts_due : Options → Nest → Facts
+facts_due options job = report_of options (facts_of (waits (setup_of job options)) (nest_in job))
 
 -- the outcome of a job with the report of the engine, and the steps of the rotation
-abbrev pub reported : Nest → Ending → Answer
-reported job (Done words) = record { status = status.Done; bytes = array_lines job.program.names (record { sizes = job.opening.sizes; words = words }) 0 job.program.decls ++ domore_report (facts_due job); history = rotation_of job }
-reported job (TrappedAt place) = record { status = status.Trapped; bytes = trap_line place; history = rotation_of job }
+abbrev pub reported : Options → Nest → Ending → Answer
+reported options job (Done words) = record { status = status.Done; bytes = array_lines job.program.names (record { sizes = job.opening.sizes; words = words }) 0 job.program.decls ++ domore_report (facts_due options job); history = rotation_of options job }
+reported options job (TrappedAt place) = record { status = status.Trapped; bytes = trap_line place; history = rotation_of options job }
 
 -- what `plain` answers to a program on these opening words: the outcome of textual order
 abbrev pub plain_answer : Program → List ℤ → Answer
@@ -75,8 +70,8 @@ abbrev pub check_answer : Program → Answer
 check_answer program = record { status = status.Done; bytes = canonical_text program; history = [] }
 
 -- what `alone` answers to a program of the first form on these opening words: the same outcome, with a report
-abbrev pub alone_answer : Program → List ℤ → Answer
-alone_answer program words = reported (job_of program words) (ending program words)
+abbrev pub alone_answer : Options → Program → List ℤ → Answer
+alone_answer options program words = reported options (job_of program words) (ending program words)
 
 -- the answer to an input that is refused
 abbrev pub refused_answer : Refusal → Answer
@@ -87,9 +82,9 @@ abbrev pub AnswersPlain : Program → List ℤ → Answer → Type 0
 AnswersPlain program words answer = answer ≡ plain_answer program words
 
 -- `alone` runs the programs of the first form, and refuses each other one
-pub data AnswersAlone (program : Program) (words : List ℤ) (answer : Answer) : Type 0 where
-  runs : IsSpelledFirst program → answer ≡ alone_answer program words → AnswersAlone program words answer
-  no_form : (IsSpelledFirst program → ⊥) → answer ≡ refusal status.TextRefused (codes "form") → AnswersAlone program words answer
+pub data AnswersAlone (options : Options) (program : Program) (words : List ℤ) (answer : Answer) : Type 0 where
+  runs : IsSpelledFirst program → answer ≡ alone_answer options program words → AnswersAlone options program words answer
+  no_form : (IsSpelledFirst program → ⊥) → answer ≡ refusal status.TextRefused (codes "form") → AnswersAlone options program words answer
 
 -- what is answered to what the data lines say, by an action that answers so to the words of a program
 abbrev pub AnswersWords : (List ℤ → Answer → Type 0) → Result Memory Refusal → Answer → Type 0
@@ -102,22 +97,22 @@ pub record AnswersData (Acts : List ℤ → Answer → Type 0) (input : List ℕ
   pub says : SaysWords input program said
   pub answers : AnswersWords Acts said answer
 
--- what an action answers to an input with this program; `check` doesn't look at the data lines
-abbrev pub AnswersProgram : Action → List ℕ → Program → Answer → Type 0
-AnswersProgram Plain input program answer = AnswersData (AnswersPlain program) input program answer
-AnswersProgram Check input program answer = answer ≡ check_answer program
-AnswersProgram Alone input program answer = AnswersData (AnswersAlone program) input program answer
+-- what an action with these options answers to an input with this program; `check` doesn't look at the data lines
+abbrev pub AnswersProgram : Action → Options → List ℕ → Program → Answer → Type 0
+AnswersProgram Plain options input program answer = AnswersData (AnswersPlain program) input program answer
+AnswersProgram Check options input program answer = answer ≡ check_answer program
+AnswersProgram Alone options input program answer = AnswersData (AnswersAlone options program) input program answer
 
--- what an action answers to what the nest of an input says
-abbrev pub AnswersNest : Action → List ℕ → Result Program Refusal → Answer → Type 0
-AnswersNest action input (Err why) answer = answer ≡ refused_answer why
-AnswersNest action input (Ok program) answer = AnswersProgram action input program answer
+-- what a call answers to what the nest of an input says
+abbrev pub AnswersNest : Call → List ℕ → Result Program Refusal → Answer → Type 0
+AnswersNest call input (Err why) answer = answer ≡ refused_answer why
+AnswersNest call input (Ok program) answer = AnswersProgram call.action call.options input program answer
 
--- what an action answers to an input: that it is too long, or what it answers to what its nest says
-pub data AnswersInput (action : Action) (input : List ℕ) (answer : Answer) : Type 0 where
-  too_long : MOST_BYTES < length input → answer ≡ refusal status.TextRefused (codes "too long") → AnswersInput action input answer
-  a_text : length input ≤ MOST_BYTES → (said : Result Program Refusal) → SaysNest input said → AnswersNest action input said answer → AnswersInput action input answer
+-- what a call answers to an input: that it is too long, or what it answers to what its nest says
+pub data AnswersInput (call : Call) (input : List ℕ) (answer : Answer) : Type 0 where
+  too_long : MOST_BYTES < length input → answer ≡ refusal status.TextRefused (codes "too long") → AnswersInput call input answer
+  a_text : length input ≤ MOST_BYTES → (said : Result Program Refusal) → SaysNest input said → AnswersNest call input said answer → AnswersInput call input answer
 
 -- an input has one answer
 abbrev pub OneAnswer : Type 0
-OneAnswer = (action : Action) (input : List ℕ) (answer other : Answer) → AnswersInput action input answer → AnswersInput action input other → answer ≡ other
+OneAnswer = (call : Call) (input : List ℕ) (answer other : Answer) → AnswersInput call input answer → AnswersInput call input other → answer ≡ other

@@ -1,7 +1,8 @@
 ghost use Rattle.std.specs.Prelude.{◌≡◌, true, IfOk};
 ghost use Rattle.nest_syntax.specs.FirstForm.{IsFirstForm};
 ghost use Rattle.domore_engine.specs.Engine.{is_finished};
-ghost use Rattle.cross_top.specs.Answers.{alone_answer, alone_options, job_of};
+ghost use Rattle.cross_top.specs.Answers.{alone_answer, job_of};
+ghost use Rattle.cross_top.specs.Words.{IsRunnable};
 ghost use Rattle.cross_top.specs.Told.{told, done_text};
 
 use crate::answers::Reply;
@@ -13,32 +14,20 @@ use nest_data::print_words;
 use nest_mean::Job;
 use nest_report::print_place;
 use nest_syntax::NoMemory;
-use progress_board::{Ending, Engine, Machine, Options, Sign};
+use progress_board::{Ending, Machine, Options};
 use std::alloc::Global;
 
 /// The outcome of a job by the engine `domore` on one thread, by the rotation, with its report.
-pub fn alone(alloc: Global, job: Job) -> Result<Reply, NoMemory>
+pub fn alone(alloc: Global, options: Options, job: Job) -> Result<Reply, NoMemory>
+    requires runs { IsRunnable options }
     requires form { IsFirstForm job.program }
     requires own { job ≡ job_of job.program job.opening.words }
-    ensures { IfOk result (λ reply. reply ≡ alone_answer job.program job.opening.words) }
+    ensures { IfOk result (λ reply. reply ≡ alone_answer options job.program job.opening.words) }
 {
-    let mut machine = Domore::open(alloc, job, alone_options())?;
+    let mut machine = Domore::open(alloc, job, options)?;
     let mut history = Vec::new(alloc);
     lone_run(&mut machine, &[], &mut history)?;
     told(alloc, &machine, history)
-}
-
-fn alone_options() -> Options
-    ensures { result ≡ alone_options }
-{
-    Options {
-        engine: Engine::Domore,
-        workers: 2,
-        queue: 16,
-        sign: Sign::Range,
-        segment: 16,
-        distance: 4,
-    }
 }
 
 /// What a finished machine tells.

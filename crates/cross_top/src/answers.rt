@@ -1,12 +1,13 @@
 ghost use Rattle.std.specs.Prelude.{◌≡◌, ◌≤◌, IfOk, length};
 ghost use Rattle.nest_io.specs.declared.transfer.TheConstants.{MOST_BYTES};
 ghost use Rattle.cross_top.specs.Answers.{refusal, refused_answer, plain_answer, check_answer};
-ghost use Rattle.cross_top.specs.Answers.{AnswersInput, AnswersProgram, AnswersAlone};
+ghost use Rattle.cross_top.specs.Answers.{AnswersInput, AnswersProgram, AnswersData, AnswersPlain, AnswersAlone};
+ghost use Rattle.cross_top.specs.Words.{IsRunnable};
 
 use crate::alone::alone;
 use crate::refusals::reason_text;
 use crate::status::Status;
-use crate::words::Action;
+use crate::words::{Action, Call};
 use first_form::is_first_form;
 use nest_check::Checked;
 use nest_data::print_words;
@@ -15,6 +16,7 @@ use nest_mean::{Job, Outcome, run_plain};
 use nest_print::print_program;
 use nest_report::print_place;
 use nest_syntax::NoMemory;
+use progress_board::Options;
 use std::alloc::Global;
 use std::marker::Model;
 
@@ -56,32 +58,35 @@ fn refused(alloc: Global, why: Refusal) -> Result<Reply, NoMemory>
     refusal(alloc, Status::TextRefused, reason.as_slice())
 }
 
-/// What an action answers to an input.
-pub fn answer_input(alloc: Global, action: Action, input: &[u8]) -> Result<Reply, NoMemory>
-    requires { length input.now ≤ MOST_BYTES }
-    ensures { IfOk result (λ reply. AnswersInput action input.now reply) }
+/// What a call answers to an input.
+pub fn answer_input(alloc: Global, call: Call, input: &[u8]) -> Result<Reply, NoMemory>
+    requires few { length input.now ≤ MOST_BYTES }
+    requires runs { IsRunnable call.options }
+    ensures { IfOk result (λ reply. AnswersInput call input.now reply) }
 {
     match read_nest(alloc, input) {
-        Ok(checked) => answer_program(alloc, action, input, checked),
+        Ok(checked) => answer_program(alloc, call.action, call.options, input, checked),
         Err(InputRefused::Refused(why)) => refused(alloc, why),
         Err(InputRefused::NoMemory) => Err(NoMemory),
     }
 }
 
-/// What an action answers to an input with this program.
+/// What an action with these options answers to an input with this program.
 fn answer_program(
     alloc: Global,
     action: Action,
+    options: Options,
     input: &[u8],
     checked: Checked,
 ) -> Result<Reply, NoMemory>
-    requires { length input.now ≤ MOST_BYTES }
-    ensures { IfOk result (λ reply. AnswersProgram action input.now checked reply) }
+    requires few { length input.now ≤ MOST_BYTES }
+    requires runs { IsRunnable options }
+    ensures { IfOk result (λ reply. AnswersProgram action options input.now checked reply) }
 {
     match action {
         Action::Plain => plain_of(alloc, input, checked),
         Action::Check => canonical(alloc, &checked),
-        Action::Alone => alone_of(alloc, input, checked),
+        Action::Alone => alone_of(alloc, options, input, checked),
     }
 }
 
@@ -100,7 +105,7 @@ fn canonical(alloc: Global, checked: &Checked) -> Result<Reply, NoMemory>
 /// What `plain` answers to an input with this program.
 fn plain_of(alloc: Global, input: &[u8], checked: Checked) -> Result<Reply, NoMemory>
     requires { length input.now ≤ MOST_BYTES }
-    ensures { IfOk result (λ reply. AnswersProgram Action.Plain input.now checked reply) }
+    ensures { IfOk result (λ reply. AnswersData (AnswersPlain checked) input.now checked reply) }
 {
     match read_words(alloc, input, &checked) {
         Ok(words) => plain(alloc, &Job::new(checked, words)),
@@ -110,23 +115,30 @@ fn plain_of(alloc: Global, input: &[u8], checked: Checked) -> Result<Reply, NoMe
 }
 
 /// What `alone` answers to an input with this program.
-fn alone_of(alloc: Global, input: &[u8], checked: Checked) -> Result<Reply, NoMemory>
-    requires { length input.now ≤ MOST_BYTES }
-    ensures { IfOk result (λ reply. AnswersProgram Action.Alone input.now checked reply) }
+fn alone_of(
+    alloc: Global,
+    options: Options,
+    input: &[u8],
+    checked: Checked,
+) -> Result<Reply, NoMemory>
+    requires few { length input.now ≤ MOST_BYTES }
+    requires runs { IsRunnable options }
+    ensures { IfOk result (λ reply. AnswersData (AnswersAlone options checked) input.now checked reply) }
 {
     match read_words(alloc, input, &checked) {
-        Ok(words) => alone_or_refused(alloc, Job::new(checked, words)),
+        Ok(words) => alone_or_refused(alloc, options, Job::new(checked, words)),
         Err(InputRefused::Refused(why)) => refused(alloc, why),
         Err(InputRefused::NoMemory) => Err(NoMemory),
     }
 }
 
 /// The outcome by the engine, where the program is of the first form.
-fn alone_or_refused(alloc: Global, job: Job) -> Result<Reply, NoMemory>
-    ensures { IfOk result (λ reply. AnswersAlone job.program job.opening.words reply) }
+fn alone_or_refused(alloc: Global, options: Options, job: Job) -> Result<Reply, NoMemory>
+    requires { IsRunnable options }
+    ensures { IfOk result (λ reply. AnswersAlone options job.program job.opening.words reply) }
 {
     if is_first_form(job.checked().program()) {
-        alone(alloc, job)
+        alone(alloc, options, job)
     } else {
         refusal(alloc, Status::TextRefused, b"form")
     }

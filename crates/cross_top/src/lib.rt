@@ -14,6 +14,6 @@ mod top;
 mod words;
 
 pub use laws::one_answer;
-pub use status::{Ended, Status};
+pub use status::{Ended, Status, exit_code};
 pub use top::cross_quiet;
-pub use words::Action;
+pub use words::{Action, Call};

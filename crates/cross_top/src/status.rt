@@ -1,4 +1,10 @@
-/// How a call of the program ends. Its number is the exit status.
+ghost use Rattle.std.specs.Prelude.{◌≡◌};
+ghost use Rattle.std.specs.Process.{exit_status};
+ghost use Rattle.cross_top.specs.Exit.{exit_number};
+
+use std::process::ExitCode;
+
+/// How a call of the program ends.
 #[derive(Clone, Copy, Debug, PartialEq, Eq)]
 pub enum Status {
     /// The action's text was written.
@@ -22,4 +28,26 @@ pub enum Status {
 pub struct Ended {
     pub status: Status,
     pub history: Vec<u8>,
+}
+
+/// What a process ends with for a status.
+pub fn exit_code(status: Status) -> ExitCode
+    ensures { exit_status result ≡ exit_number status }
+{
+    ExitCode::from(exit_number(status))
+}
+
+/// The exit number of a status.
+fn exit_number(status: Status) -> u8
+    ensures { result ≡ exit_number status }
+{
+    match status {
+        Status::Done => 0,
+        Status::Trapped => 1,
+        Status::WordsRefused => 2,
+        Status::TextRefused => 3,
+        Status::ReadFault => 4,
+        Status::WriteFault => 5,
+        Status::NoMemory => 6,
+    }
 }

@@ -1,12 +1,14 @@
-ghost use Rattle.std.specs.Prelude.{◌≡◌, ◌≢◌, ◌<◌, [], ℕ, Some, IsErrOf, IfOk, MatchResult, length, map, string_bytes};
+ghost use Rattle.std.specs.Prelude.{◌≡◌, ◌≢◌, ◌<◌, false, [], ℕ, List, Some, None, IsSome, IsErrOf, IfOk, MatchResult, length, map, string_bytes};
 ghost use Rattle.std.specs.Io.KnownBytes.{Appends};
 ghost use Rattle.nest_io.specs.Count.{HasRisen};
 ghost use Rattle.nest_io.specs.Stream.{AppendsPart};
-ghost use Rattle.cross_top.specs.Ends.{Ends, IsDue, IsDueTo};
+ghost use Rattle.cross_top.specs.Answers.{AnswersInput};
+ghost use Rattle.cross_top.specs.Words.{call_of, IsRunnable};
+ghost use Rattle.cross_top.specs.Ends.{Ends, IsDue, IsDueTo, TakesInput};
 
 use crate::answers::{Reply, answer_input, refusal};
 use crate::status::{Ended, Status};
-use crate::words::{Action, action_of};
+use crate::words::{Call, call_of};
 use nest_io::{Sink, Source, TakeFault, WriteFailed, put_all, take_all};
 use nest_syntax::NoMemory;
 use std::alloc::Global;
@@ -19,14 +21,20 @@ enum Unanswered {
 }
 
 /// The top call: does what the command words ask for with the bytes of the source, and writes the answer to the sink.
-/// Nothing is written before the whole answer is ready. `docs/OUTPUT.md` says what is due for which words and bytes.
+/// Nothing is written before the whole answer is ready, and nothing is read before the words are accepted.
+/// `docs/OUTPUT.md` says what is due for which words and bytes.
 pub fn cross_quiet<S: Source, K: Sink>(
     alloc: Global,
     words: &[String],
     source: &mut S,
     sink: &mut K,
 ) -> Ended
-    ensures ends { Ends (map string_bytes words.now) (S.left source.old) (S.left source.new) (K.written sink.old) (K.written sink.new) (K.has_room sink.old) result.status result.history.items }
+    requires { S.is_ended source.old ≡ false }
+
+    ensures ends { Ends (map string_bytes words.now) (record { old = S.left source.old; new = S.left source.new; ended = S.is_ended source.new }) (K.written sink.old) (K.written sink.new) (K.has_room sink.old) result.status result.history.items }
+
+    // Where the words are refused the source is as it was, however the call ends.
+    ensures untouched { call_of (map string_bytes words.now) ≡ None → source.new ≡ source.old }
 
     // A fault is told only where a count rose, and where none is told the counts are as they were.
     ensures read_fault { result.status ≡ Status.ReadFault → HasRisen (S.faults source.old) (S.faults source.new) }
@@ -72,29 +80,50 @@ fn write<K: Sink>(reply: &Reply, sink: &mut K) -> Status
 
 /// What is due to the words, from the bytes of the source where they ask for an action that reads.
 fn answer<S: Source>(alloc: Global, words: &[String], source: &mut S) -> Result<Reply, Unanswered>
-    ensures due { IfOk result (λ reply. IsDue (map string_bytes words.now) (S.left source.old) (S.left source.new) reply) }
+    requires { S.is_ended source.old ≡ false }
+
+    ensures due { IfOk result (λ reply. IsDue (map string_bytes words.now) (record { old = S.left source.old; new = S.left source.new; ended = S.is_ended source.new }) reply) }
+    ensures untouched { call_of (map string_bytes words.now) ≡ None → source.new ≡ source.old }
+    ensures accepted { IsErrOf result Unanswered.Read → IsSome (call_of (map string_bytes words.now)) }
     ensures read_fault { IsErrOf result Unanswered.Read → HasRisen (S.faults source.old) (S.faults source.new) }
     ensures no_read_fault { result ≢ Err Unanswered.Read → S.faults source.new ≡ S.faults source.old }
     ensures sure { S.never_fails source.old → result ≢ Err Unanswered.Read }
 {
-    match action_of(words) {
-        Some(action) => answer_source(alloc, action, source),
+    match call_of(words) {
+        Some(call) => answer_call(alloc, call, source),
         None => or_no_memory(refusal(alloc, Status::WordsRefused, b"words")),
     }
 }
 
-fn answer_source<S: Source>(
-    alloc: Global,
-    action: Action,
-    source: &mut S,
-) -> Result<Reply, Unanswered>
-    ensures due { IfOk result (λ reply. IsDueTo (Some action) (S.left source.old) (S.left source.new) reply) }
+/// What is due to a call.
+fn answer_call<S: Source>(alloc: Global, call: Call, source: &mut S) -> Result<Reply, Unanswered>
+    requires going { S.is_ended source.old ≡ false }
+    requires runs { IsRunnable call.options }
+
+    ensures due { IfOk result (λ reply. IsDueTo (Some call) (record { old = S.left source.old; new = S.left source.new; ended = S.is_ended source.new }) reply) }
+    ensures read_fault { IsErrOf result Unanswered.Read → HasRisen (S.faults source.old) (S.faults source.new) }
+    ensures no_read_fault { result ≢ Err Unanswered.Read → S.faults source.new ≡ S.faults source.old }
+    ensures sure { S.never_fails source.old → result ≢ Err Unanswered.Read }
+{
+    if call.action.reads_input() {
+        answer_source(alloc, call, source)
+    } else {
+        or_no_memory(answer_input(alloc, call, b""))
+    }
+}
+
+/// What is due to a call from the bytes of the source.
+fn answer_source<S: Source>(alloc: Global, call: Call, source: &mut S) -> Result<Reply, Unanswered>
+    requires going { S.is_ended source.old ≡ false }
+    requires runs { IsRunnable call.options }
+
+    ensures due { IfOk result (λ reply. (input : List ℕ) × TakesInput (record { old = S.left source.old; new = S.left source.new; ended = S.is_ended source.new }) input × AnswersInput call input reply) }
     ensures read_fault { IsErrOf result Unanswered.Read → HasRisen (S.faults source.old) (S.faults source.new) }
     ensures no_read_fault { result ≢ Err Unanswered.Read → S.faults source.new ≡ S.faults source.old }
     ensures sure { S.never_fails source.old → result ≢ Err Unanswered.Read }
 {
     match take_all(alloc, source) {
-        Ok(input) => or_no_memory(answer_input(alloc, action, input.as_slice())),
+        Ok(input) => or_no_memory(answer_input(alloc, call, input.as_slice())),
         Err(TakeFault::TooLong) => or_no_memory(refusal(alloc, Status::TextRefused, b"too long")),
         Err(TakeFault::Read) => Err(Unanswered::Read),
         Err(TakeFault::NoMemory) => Err(Unanswered::NoMemory),

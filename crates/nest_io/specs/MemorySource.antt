@@ -1,5 +1,5 @@
 -- A source in memory, as its callers see it.
-use Rattle.std.specs.Prelude.{ℕ, ◌<◌, ◌^◌, List, length, min}
+use Rattle.std.specs.Prelude.{ℕ, ◌<◌, ◌^◌, Bool, List, length, min}
 
 pub record SourceState : Type 0 where
   -- the bytes still to come
@@ -12,6 +12,8 @@ pub record SourceState : Type 0 where
   pub calls : ℕ
   -- how many of them failed
   pub faults : ℕ
+  -- whether the end was answered
+  pub ended : Bool
 
 -- what holds of each source in memory: a call may give a byte, and the counts have 64 bits
 pub record IsSource (source : SourceState) : Type 0 where

@@ -1,7 +1,12 @@
--- What moves through a source and a sink. `Consumes`, `Keeps`, `IsAtEnd` and `Appends` are std's words on
+-- What moves through a source and a sink, and when a source has answered its end. `Consumes`, `Keeps`, `IsAtEnd` and `Appends` are std's words on
 -- bytes that are told or not.
-use Rattle.std.specs.Prelude.{◌≡◌, ℕ, ◌<◌, List, ◌++◌, length, Option}
+use Rattle.std.specs.Prelude.{◌≡◌, ◌==◌, ℕ, ◌<◌, Bool, false, List, ◌++◌, length, Option, Result, Ok, Err}
 use Rattle.std.specs.Io.KnownBytes.{Consumes, Appends}
+
+-- whether a read answered the end: it gave no bytes
+abbrev pub answers_end : {E : Type 0} → Result ℕ E → Bool
+answers_end (Ok count) = count == 0
+answers_end (Err fault) = false
 
 -- some of the bytes at the front, and not all of them
 abbrev pub IsProperPrefix : List ℕ → List ℕ → Type 0

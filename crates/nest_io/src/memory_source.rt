@@ -1,4 +1,4 @@
-ghost use Rattle.std.specs.Prelude.{◌≡◌, ◌<◌, ◌≤◌, ◌++◌, ◌↔◌, ℕ, List, length, take, drop, Contains, IsErr, IfOk, OnOk, OnErr, Some};
+ghost use Rattle.std.specs.Prelude.{◌≡◌, ◌<◌, ◌≤◌, ◌++◌, ◌↔◌, ◌==◌, false, ℕ, List, length, take, drop, Contains, IsErr, IfOk, OnOk, OnErr, Some};
 ghost use Rattle.nest_io.specs.Count.{one_more, NoneFails};
 ghost use Rattle.nest_io.specs.MemorySource.{IsSource, next_count};
 
@@ -16,6 +16,7 @@ pub struct MemorySource {
     fails: Vec<u64>,
     calls: u64,
     faults: u64,
+    ended: bool,
 }
 
 impl Model for MemorySource {
@@ -30,6 +31,7 @@ impl Model for MemorySource {
       fails = s.fails.items;
       calls = s.calls;
       faults = s.faults;
+      ended = s.ended;
     } };
 
     ghost invariant = { λ s. (s.given ≤ length s.bytes.items) × (0 < s.most) };
@@ -46,6 +48,7 @@ impl MemorySource {
           fails = fails.items;
           calls = 0;
           faults = 0;
+          ended = false;
         } }
     {
         MemorySource {
@@ -55,6 +58,7 @@ impl MemorySource {
             fails,
             calls: 0,
             faults: 0,
+            ended: false,
         }
     }
 }
@@ -63,6 +67,8 @@ impl Source for MemorySource {
     ghost left = { λ s. Some s.left };
 
     ghost faults = { λ s. s.faults };
+
+    ghost is_ended = { λ s. s.ended };
 
     ghost never_fails = { λ s. NoneFails s.fails s.calls };
 
@@ -83,6 +89,7 @@ impl Source for MemorySource {
         ensures given { IfOk result (λ count. self.new ≡ record self.old {
           left = drop count self.old.left;
           calls = one_more self.old.calls;
+          ended = count == 0;
         }) }
     {
         let number = self.calls;
@@ -95,6 +102,7 @@ impl Source for MemorySource {
         let count = self.most.min(buf.len()).min(left.len());
         copy_front(buf, left, count);
         self.given += count;
+        self.ended = count == 0;
         Ok(count)
     }
 }

@@ -1,7 +1,8 @@
-ghost use Rattle.std.specs.Prelude.{◌≡◌, ◌-◌, ◌<◌, ◌≤◌, ℕ, List, Option, length, IsOk, IsOkAnd, IfOk, OnOk, OnErr};
+ghost use Rattle.std.specs.Prelude.{◌≡◌, ◌-◌, ◌<◌, ◌≤◌, ℕ, List, Bool, false, Option, length, IsOk, IsOkAnd, IfOk, OnOk, OnErr};
 ghost use Rattle.std.specs.Io.{ReadsAtMost};
 ghost use Rattle.std.specs.Io.KnownBytes.{ReadConsumes, WriteAppends};
 ghost use Rattle.nest_io.specs.Count.{HasRisen};
+ghost use Rattle.nest_io.specs.Stream.{answers_end};
 
 use crate::fault::{ReadFailed, WriteFailed};
 
@@ -13,16 +14,21 @@ pub trait Source {
     /// How many calls have failed. The count stays at 2^64 - 1 once it is there.
     ghost faults: { Self → ℕ };
 
+    /// Whether the end was answered. Behind it nothing is read.
+    ghost is_ended: { Self → Bool };
+
     /// No coming call fails. A source that can't know never says so.
     ghost never_fails: { Self → Type 0 } = { λ _. ⊥ };
 
     /// Puts the next bytes at the front of `buf` and answers how many: at least one before the end,
     /// and 0 at the end. On `ReadFailed` nothing was given, and what `buf` holds is open.
     fn read(&mut self, buf: &mut [u8]) -> Result<usize, ReadFailed>
-        requires { 0 < length buf.old }
+        requires room { 0 < length buf.old }
+        requires going { is_ended self.old ≡ false }
 
         ensures within { ReadsAtMost result buf.new }
         ensures bytes { ReadConsumes (left self.old) (left self.new) result buf.new }
+        ensures ended { is_ended self.new ≡ answers_end result }
 
         // The count rises where the call fails, and stays where it doesn't.
         ensures cause { OnErr result (HasRisen (faults self.old) (faults self.new)) }

@@ -1,4 +1,4 @@
-ghost use Rattle.std.specs.Prelude.{◌≡◌, ◌≢◌, ◌+◌, ◌-◌, ◌<◌, ◌≤◌, [], ℕ, List, length, IsOk, IsErrOf, IfOk, IfSome, OnOk, OnErr, MatchResult};
+ghost use Rattle.std.specs.Prelude.{◌≡◌, ◌≢◌, ◌+◌, ◌-◌, ◌<◌, ◌≤◌, false, [], ℕ, List, length, is_ok, IsOk, IsErrOf, IfOk, IfSome, OnOk, OnErr, MatchResult};
 ghost use Rattle.std.specs.Io.KnownBytes.{Consumes, IsAtEnd, Appends};
 ghost use Rattle.nest_io.specs.Count.{HasRisen};
 ghost use Rattle.nest_io.specs.Stream.{LosesPrefix, AppendsPart};
@@ -19,6 +19,8 @@ const PIECE_BYTES: usize = 16_384;
 /// source has more than `MOST_BYTES` bytes, at the next one, which is taken too. On a refusal the
 /// bytes that were read are gone from the source. Memory is taken as bytes come.
 pub fn take_all<S: Source>(alloc: Global, source: &mut S) -> Result<Vec<u8>, TakeFault>
+    requires { S.is_ended source.old ≡ false }
+
     // Where the source tells its bytes, they are the answer, unless they are too many.
     ensures exact { IfSome (S.left source.old) (λ all. MatchResult result
         (λ bytes. (bytes.items ≡ all) × (length all ≤ MOST_BYTES))
@@ -28,6 +30,10 @@ pub fn take_all<S: Source>(alloc: Global, source: &mut S) -> Result<Vec<u8>, Tak
     // What was read is gone, and no more.
     ensures all { IfOk result (λ bytes. Consumes (S.left source.old) (S.left source.new) bytes.items) }
     ensures end { OnOk result (IsAtEnd (S.left source.new)) }
+
+    // The source answered its end exactly where its bytes are handed out.
+    ensures ended { S.is_ended source.new ≡ is_ok result }
+
     ensures part { OnErr result (LosesPrefix (S.left source.old) (S.left source.new)) }
     ensures long { IsErrOf result TakeFault.TooLong → (more : List ℕ) × (length more ≡ MOST_BYTES + 1)
         × Consumes (S.left source.old) (S.left source.new) more }

@@ -1,4 +1,4 @@
-ghost use Rattle.std.specs.Prelude.{◌≡◌, ◌≤◌, length};
+ghost use Rattle.std.specs.Prelude.{◌≡◌, ◌≤◌, true, false, length, IfOk};
 ghost use Rattle.nest_io.specs.Count.{NoneFails};
 
 use nest_io::{MemorySink, MemorySource, StdSink, StdSource, TakeFault, put_all, take_all};
@@ -8,7 +8,8 @@ use std::test::Fail;
 
 // What the streams in memory are to give: where no coming call fails, no count rises.
 fn count_after_take(alloc: Global, source: &mut MemorySource)
-    requires { NoneFails source.old.fails source.old.calls }
+    requires going { source.old.ended ≡ false }
+    requires fails { NoneFails source.old.fails source.old.calls }
     ensures { source.new.faults ≡ source.old.faults }
 {
     let _ = take_all(alloc, source);
@@ -25,7 +26,9 @@ fn count_after_put(sink: &mut MemorySink, bytes: &[u8])
 const TEXT: &str = "a 7 2 6 7\nb 1 2\n";
 
 // A source of the text in pieces of 7, of which the read with this number fails.
-fn source(alloc: Global, fails: u64) -> Result<MemorySource, AllocError> {
+fn source(alloc: Global, fails: u64) -> Result<MemorySource, AllocError>
+    ensures { IfOk result (λ source. source.ended ≡ false) }
+{
     let bytes = Vec::from_slice(alloc, TEXT.as_bytes())?;
     Ok(MemorySource::new(bytes, 7, vec![in alloc; fails]?))
 }
@@ -33,6 +36,14 @@ fn source(alloc: Global, fails: u64) -> Result<MemorySource, AllocError> {
 // A sink with so much room that takes pieces of 7, of which the write with this number fails.
 fn sink(alloc: Global, room: usize, fails: u64) -> Result<MemorySink, NoMemory> {
     MemorySink::new(alloc, room, 7, vec![in alloc; fails]?)
+}
+
+// Whether a read failed.
+fn read_fails(alloc: Global, source: &mut MemorySource) -> bool
+    requires { source.old.ended ≡ false }
+    ensures { result ≡ true → source.new.ended ≡ false }
+{
+    matches!(take_all(alloc, source), Err(TakeFault::Read))
 }
 
 // The text takes three reads, and one more finds its end.
@@ -45,8 +56,7 @@ fn a_read_that_fails_loses_only_what_was_read(rt: HostRuntime) -> Result<(), Fai
         (3, ""),
     ] {
         let mut source = source(rt.alloc(), number)?;
-        let first = take_all(rt.alloc(), &mut source);
-        assert!(rt; matches!(first, Err(TakeFault::Read)), "read {number}");
+        assert!(rt; read_fails(rt.alloc(), &mut source), "read {number}");
         let bytes = take_all(rt.alloc(), &mut source)?;
         assert_eq!(rt; bytes.as_slice(), left.as_bytes(), "behind read {number}");
     }

@@ -5,4 +5,4 @@ use Rattle.cross_top.proofs.top.cross_quiet.Goals as goal
 
 pub returns-in-Ok-clause-ends : goal.returns-in-Ok-clause-ends
 returns-in-Ok-clause-ends g c = rw (ap (λ (a : Answer). a.history) c.reply.view_is)
-    (ends_written (map string_bytes c.args.words.now) (g.S.Source.left c.args.source.now) (g.S.Source.left c.answer.new.source) _ _ _ _ c.write-status.result c.in-Ok.ensures.due c.write-status.ensures.written c.write-status.ensures.cut)
+    (ends_written (map string_bytes c.args.words.now) _ _ _ _ _ c.write-status.result c.in-Ok.ensures.due c.write-status.ensures.written c.write-status.ensures.cut)
