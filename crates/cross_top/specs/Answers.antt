@@ -18,13 +18,10 @@ use Rattle.cross_top.specs.declared.words.Action.TheVariants.{Plain, Check, Alon
 use Rattle.cross_top.specs.declared.words.Call.{Call}
 use Rattle.nest_mean.specs.Nest.{Nest}
 use Rattle.progress_board.specs.declared.options.Options.{Options}
-use Rattle.progress_board.specs.declared.facts.Facts.{Facts}
 use Rattle.progress_board.specs.Actors.{actors_of}
 use Rattle.progress_board.specs.Rotation.{rotation}
-use Rattle.domore_core.specs.Machine.{waits}
-use Rattle.domore_core.specs.Facts.{facts_of}
-use Rattle.domore_engine.specs.Engine.{opening, step, measure, setup_of, nest_in}
-use Rattle.domore_engine.specs.Reports.{report_of}
+use Rattle.domore_engine.specs.Engine.{opening, step, measure}
+use Rattle.domore_engine.specs.Theorems.{facts_due}
 use Rattle.cross_top.specs.Report.{domore_report}
 use Rattle.cross_top.specs.Refusals.{reason_text}
 
@@ -51,14 +48,9 @@ job_of program words = record { program = program; opening = record { sizes = si
 abbrev pub rotation_of : Options → Nest → List ℕ
 rotation_of options job = rotation step measure (opening job options) (actors_of options) []
 
--- The facts of a nest that doesn't trap: counts of its events, and the waits of all its iterations. They speak of no
--- history.
-abbrev pub facts_due : Options → Nest → Facts
-facts_due options job = report_of options (facts_of (waits (setup_of job options)) (nest_in job))
-
 -- the outcome of a job with the report of the engine, and the steps of the rotation
 abbrev pub reported : Options → Nest → Ending → Answer
-reported options job (Done words) = record { status = status.Done; bytes = array_lines job.program.names (record { sizes = job.opening.sizes; words = words }) 0 job.program.decls ++ domore_report (facts_due options job); history = rotation_of options job }
+reported options job (Done words) = record { status = status.Done; bytes = array_lines job.program.names (record { sizes = job.opening.sizes; words = words }) 0 job.program.decls ++ domore_report (facts_due job options); history = rotation_of options job }
 reported options job (TrappedAt place) = record { status = status.Trapped; bytes = trap_line place; history = rotation_of options job }
 
 -- what `plain` answers to a program on these opening words: the outcome of textual order

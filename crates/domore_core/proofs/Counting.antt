@@ -7,7 +7,6 @@ use Rattle.nest_syntax.specs.Course.{Ordinary, Header}
 use Rattle.nest_syntax.specs.Outcome.{Event, Computes, Drains, Iterates, Closes, Ends, iterations_among}
 use Rattle.domore_core.specs.Waits.{Wait}
 use Rattle.domore_core.specs.Facts.{Listed, Facts, no_facts, computed, drained, listed_at, iterated, facts_from, is_header, is_drain, listed_from, FactsCount}
-use Rattle.domore_core.proofs.Course.{counts_iterations}
 
 abbrev pub is_crossing : Listed → Bool
 is_crossing l = l.crossing
@@ -22,13 +21,14 @@ count_append : (xs ys : List Listed) → count_by is_crossing (xs ++ ys) ≡ cou
 count_append xs ys = sum_by-append _ xs ys
 
 module _ (waits : ℕ → List Wait) where
-  -- what is counted from some facts on, behind `prior` waits
-  pub record AddsUp (facts : Facts) (prior : List Listed) (passed : List Event) : Type 0 where
-    pub invocations : (facts_from waits facts passed).invocations ≡ facts.invocations + count_by is_header passed
-    pub drains : (facts_from waits facts passed).drains ≡ facts.drains + count_by is_drain passed
-    pub waits_too : (facts_from waits facts passed).waits ≡ facts.waits + length (listed_from waits facts.iterations facts.first passed)
-    pub crossing : (facts_from waits facts passed).crossing ≡ facts.crossing + count_by is_crossing (listed_from waits facts.iterations facts.first passed)
-    pub listed : (facts_from waits facts passed).listed ≡ take 64 (prior ++ listed_from waits facts.iterations facts.first passed)
+  -- what is counted from iteration k and some facts on, behind `prior` waits
+  pub record AddsUp (k : ℕ) (facts : Facts) (prior : List Listed) (passed : List Event) : Type 0 where
+    pub invocations : (facts_from waits k facts passed).invocations ≡ facts.invocations + count_by is_header passed
+    pub iterations : (facts_from waits k facts passed).iterations ≡ facts.iterations + length (iterations_among passed)
+    pub drains : (facts_from waits k facts passed).drains ≡ facts.drains + count_by is_drain passed
+    pub waits_too : (facts_from waits k facts passed).waits ≡ facts.waits + length (listed_from waits k facts.first passed)
+    pub crossing : (facts_from waits k facts passed).crossing ≡ facts.crossing + count_by is_crossing (listed_from waits k facts.first passed)
+    pub listed : (facts_from waits k facts passed).listed ≡ take 64 (prior ++ listed_from waits k facts.first passed)
 
   headers : (event : Event) (passed : List Event) (n : ℕ) → count_by is_header (event ∷ []) ≡ n → count_by is_header (event ∷ passed) ≡ n + count_by is_header passed
   headers event passed n one = sum_by-append _ (event ∷ []) passed ∙ ap (λ x. x + count_by is_header passed) one
@@ -36,46 +36,46 @@ module _ (waits : ℕ → List Wait) where
   drain_count : (event : Event) (passed : List Event) (n : ℕ) → count_by is_drain (event ∷ []) ≡ n → count_by is_drain (event ∷ passed) ≡ n + count_by is_drain passed
   drain_count event passed n one = sum_by-append _ (event ∷ []) passed ∙ ap (λ x. x + count_by is_drain passed) one
 
-  adds_up : (facts : Facts) (prior : List Listed) (passed : List Event) → facts.listed ≡ take 64 prior → AddsUp facts prior passed
-  adds_up facts prior [] same = record { invocations = omega arith; drains = omega arith; waits_too = omega arith; crossing = omega arith; listed = same ∙ ap (take 64) (sym (append-nil prior)) }
-  adds_up facts prior (Computes Ordinary scalars ∷ passed) same = let more = adds_up facts prior passed same in
+  adds_up : (k : ℕ) (facts : Facts) (prior : List Listed) (passed : List Event) → facts.listed ≡ take 64 prior → AddsUp k facts prior passed
+  adds_up k facts prior [] same = record { invocations = omega arith; iterations = omega arith; drains = omega arith; waits_too = omega arith; crossing = omega arith; listed = same ∙ ap (take 64) (sym (append-nil prior)) }
+  adds_up k facts prior (Computes Ordinary scalars ∷ passed) same = let more = adds_up k facts prior passed same in
       let h : count_by is_header (Computes Ordinary scalars ∷ passed) ≡ 0 + count_by is_header passed = headers (Computes Ordinary scalars) passed 0 refl in
       let d : count_by is_drain (Computes Ordinary scalars ∷ passed) ≡ 0 + count_by is_drain passed = drain_count (Computes Ordinary scalars) passed 0 refl in
-      record { invocations = omega (arith, more.invocations); drains = omega (arith, more.drains); waits_too = more.waits_too; crossing = more.crossing; listed = more.listed }
-  adds_up facts prior (Computes Header scalars ∷ passed) same = let more = adds_up (computed Header facts) prior passed same in
+      record { invocations = omega (arith, more.invocations); iterations = more.iterations; drains = omega (arith, more.drains); waits_too = more.waits_too; crossing = more.crossing; listed = more.listed }
+  adds_up k facts prior (Computes Header scalars ∷ passed) same = let more = adds_up k (computed k Header facts) prior passed same in
       let h : count_by is_header (Computes Header scalars ∷ passed) ≡ 1 + count_by is_header passed = headers (Computes Header scalars) passed 1 refl in
       let d : count_by is_drain (Computes Header scalars ∷ passed) ≡ 0 + count_by is_drain passed = drain_count (Computes Header scalars) passed 0 refl in
-      record { invocations = omega (arith, more.invocations); drains = omega (arith, more.drains); waits_too = more.waits_too; crossing = more.crossing; listed = more.listed }
-  adds_up facts prior (Drains Ordinary scalars ∷ passed) same = let more = adds_up (drained facts) prior passed same in
+      record { invocations = omega (arith, more.invocations); iterations = more.iterations; drains = omega (arith, more.drains); waits_too = more.waits_too; crossing = more.crossing; listed = more.listed }
+  adds_up k facts prior (Drains Ordinary scalars ∷ passed) same = let more = adds_up k (drained facts) prior passed same in
       let h : count_by is_header (Drains Ordinary scalars ∷ passed) ≡ 0 + count_by is_header passed = headers (Drains Ordinary scalars) passed 0 refl in
       let d : count_by is_drain (Drains Ordinary scalars ∷ passed) ≡ 1 + count_by is_drain passed = drain_count (Drains Ordinary scalars) passed 1 refl in
-      record { invocations = omega (arith, more.invocations); drains = omega (arith, more.drains); waits_too = more.waits_too; crossing = more.crossing; listed = more.listed }
-  adds_up facts prior (Drains Header scalars ∷ passed) same = let more = adds_up (computed Header (drained facts)) prior passed same in
+      record { invocations = omega (arith, more.invocations); iterations = more.iterations; drains = omega (arith, more.drains); waits_too = more.waits_too; crossing = more.crossing; listed = more.listed }
+  adds_up k facts prior (Drains Header scalars ∷ passed) same = let more = adds_up k (computed k Header (drained facts)) prior passed same in
       let h : count_by is_header (Drains Header scalars ∷ passed) ≡ 1 + count_by is_header passed = headers (Drains Header scalars) passed 1 refl in
       let d : count_by is_drain (Drains Header scalars ∷ passed) ≡ 1 + count_by is_drain passed = drain_count (Drains Header scalars) passed 1 refl in
-      record { invocations = omega (arith, more.invocations); drains = omega (arith, more.drains); waits_too = more.waits_too; crossing = more.crossing; listed = more.listed }
-  adds_up facts prior (Iterates body scalars ∷ passed) same =
-      let new : List Listed = map (listed_at facts.iterations facts.first) (waits facts.iterations) in
-      let others : List Listed = listed_from waits (suc facts.iterations) facts.first passed in
-      let more : AddsUp (iterated (waits facts.iterations) facts) (prior ++ new) passed = adds_up (iterated (waits facts.iterations) facts) (prior ++ new) passed (ap (λ l. take 64 (l ++ new)) same ∙ take_again 64 prior new) in
+      record { invocations = omega (arith, more.invocations); iterations = more.iterations; drains = omega (arith, more.drains); waits_too = more.waits_too; crossing = more.crossing; listed = more.listed }
+  adds_up k facts prior (Iterates body scalars ∷ passed) same =
+      let new : List Listed = map (listed_at k facts.first) (waits k) in
+      let others : List Listed = listed_from waits (suc k) facts.first passed in
+      let more : AddsUp (suc k) (iterated k (waits k) facts) (prior ++ new) passed = adds_up (suc k) (iterated k (waits k) facts) (prior ++ new) passed (ap (λ l. take 64 (l ++ new)) same ∙ take_again 64 prior new) in
       let h : count_by is_header (Iterates body scalars ∷ passed) ≡ 0 + count_by is_header passed = headers (Iterates body scalars) passed 0 refl in
       let d : count_by is_drain (Iterates body scalars ∷ passed) ≡ 0 + count_by is_drain passed = drain_count (Iterates body scalars) passed 0 refl in
-      let l : length (new ++ others) ≡ length (waits facts.iterations) + length others = length-append new others ∙ ap (λ x. x + length others) (length-map (waits facts.iterations) (listed_at facts.iterations facts.first)) in
+      let l : length (new ++ others) ≡ length (waits k) + length others = length-append new others ∙ ap (λ x. x + length others) (length-map (waits k) (listed_at k facts.first)) in
       let c : count_by is_crossing (new ++ others) ≡ count_by is_crossing new + count_by is_crossing others = count_append new others in
-      record { invocations = omega (arith, more.invocations); drains = omega (arith, more.drains); waits_too = omega (arith, more.waits_too, l); crossing = omega (arith, more.crossing, c); listed = more.listed ∙ ap (take 64) (append_assoc prior new others) }
-  adds_up facts prior (Closes scalars ∷ passed) same = let more = adds_up facts prior passed same in
+      record { invocations = omega (arith, more.invocations); iterations = omega (arith, more.iterations); drains = omega (arith, more.drains); waits_too = omega (arith, more.waits_too, l); crossing = omega (arith, more.crossing, c); listed = more.listed ∙ ap (take 64) (append_assoc prior new others) }
+  adds_up k facts prior (Closes scalars ∷ passed) same = let more = adds_up k facts prior passed same in
       let h : count_by is_header (Closes scalars ∷ passed) ≡ 0 + count_by is_header passed = headers (Closes scalars) passed 0 refl in
       let d : count_by is_drain (Closes scalars ∷ passed) ≡ 0 + count_by is_drain passed = drain_count (Closes scalars) passed 0 refl in
-      record { invocations = omega (arith, more.invocations); drains = omega (arith, more.drains); waits_too = more.waits_too; crossing = more.crossing; listed = more.listed }
-  adds_up facts prior (Ends ∷ passed) same = let more = adds_up facts prior passed same in
+      record { invocations = omega (arith, more.invocations); iterations = more.iterations; drains = omega (arith, more.drains); waits_too = more.waits_too; crossing = more.crossing; listed = more.listed }
+  adds_up k facts prior (Ends ∷ passed) same = let more = adds_up k facts prior passed same in
       let h : count_by is_header (Ends ∷ passed) ≡ 0 + count_by is_header passed = headers Ends passed 0 refl in
       let d : count_by is_drain (Ends ∷ passed) ≡ 0 + count_by is_drain passed = drain_count Ends passed 0 refl in
-      record { invocations = omega (arith, more.invocations); drains = omega (arith, more.drains); waits_too = more.waits_too; crossing = more.crossing; listed = more.listed }
+      record { invocations = omega (arith, more.invocations); iterations = more.iterations; drains = omega (arith, more.drains); waits_too = more.waits_too; crossing = more.crossing; listed = more.listed }
 
 pub facts_count : FactsCount
-facts_count waits passed = let all = adds_up waits no_facts [] passed refl in record {
+facts_count waits passed = let all = adds_up waits 0 no_facts [] passed refl in record {
   invocations = omega (arith, all.invocations);
-  iterations = counts_iterations waits no_facts passed ∙ (let e : 0 + length (iterations_among passed) ≡ length (iterations_among passed) = omega arith in e);
+  iterations = omega (arith, all.iterations);
   drains = omega (arith, all.drains);
   waits = omega (arith, all.waits_too);
   crossing = omega (arith, all.crossing);

@@ -117,15 +117,15 @@ pub no_step : (B C P : Type 0) → EndedHaveNoStep B C P
 no_step B C P m s actor ended = ap (option_map (state_after m s actor)) (no_move m s actor ended)
 
 pub stay : (B C P : Type 0) → EndedStay B C P
-stay B C P m nest tree start setup history s t actor other leads ended e = go (step_is m s other t e)
+stay B C P m nest what start setup history s t actor other leads ended e = go (step_is m s other t e)
   where
     go : IsStep m s other t → ended_actor m t actor ≡ true
-    go is = let i = invariant_holds m nest tree start setup history s leads in
+    go is = let i = invariant_holds m nest what start setup history s leads in
         ended_kept m s i.tickets t actor
         (λ v gone. subst (λ x. is_gone (seat_at x.seats v).hand ≡ true) (sym is.behind) (gone_kept m s i.tickets other is.move setup.some_worker is.guard v gone))
         (λ over. subst (λ x. x.halted ≡ true) (sym is.behind) (over_kept m s i.tickets other is.move over))
         ended
 
 pub finishes : (B C P : Type 0) → FinishedIsAllEnded B C P
-finishes B C P m nest tree start setup history s leads = let i = invariant_holds m nest tree start setup history s leads in
+finishes B C P m nest what start setup history s leads = let i = invariant_holds m nest what start setup history s leads in
     ((λ finished actor lt. all_ended m s i.tickets finished actor), finished_from m s i.tickets)

@@ -7,7 +7,6 @@ use Rattle.std.specs.Option.{option_map_or, option_and_then}
 use Rattle.nest_syntax.specs.declared.place.Place.{Place}
 use Rattle.nest_syntax.specs.Arrays.{word_at}
 use Rattle.nest_syntax.specs.Outcome.{place_of_trap}
-use Rattle.settle_law.specs.Cuts.{Cut}
 use Rattle.settle_law.specs.Traces.{Access}
 use Rattle.settle_law.specs.Tasks.{Loads}
 use Rattle.settle_law.specs.Courses.{Nest, Trap, Event, Scalar, Drain, Iterate, Close, events, family_of}
@@ -15,7 +14,8 @@ use Rattle.settle_law.proofs.Tasks.{left_read, left_told, left_write, left_go}
 use Rattle.settle_law.proofs.Cursors.{begins}
 use Rattle.domore_core.specs.Waits.{Wait}
 use Rattle.domore_core.specs.Machine.{Setup, State, Seat, Hand, Idle, Holding, Ticket, Move, DoScalar, DoClose, DoDrain, DoDispatch, DoHalt, DoTake, DoPass, DoRead, DoWrite, DoGo, DoFinish, DoTrap, DoDropHeld, DoDropQueued, DoEnd, opening_seat, seat_at, seat_after, trap_after, worker_after, state_after, scalar_after, seat_with, ticket_of, opening, step, waits}
-use Rattle.domore_core.specs.Runs.{run, made_by, trace_from}
+use Rattle.settle_law.specs.Runs.{run}
+use Rattle.domore_core.specs.Runs.{made_by, trace_from}
 use Rattle.domore_core.specs.Theorems.{IsSetupFor}
 use Rattle.domore_core.specs.Measure.{behind_trap, iteration_weight, ticket_weight, hand_weight, seat_weight, event_weight, ahead, going_weight, scheduler_weight, measure, Costs, bound, sum_below, StepsFall, HistoriesAreBounded, OpeningIsWithinBound}
 use Rattle.domore_core.specs.Invariant.{Invariant}
@@ -26,7 +26,7 @@ use Rattle.domore_core.proofs.Textual.{all_finished_at, words_are}
 use Rattle.domore_core.proofs.Ahead.{ahead_is, bounded}
 use Rattle.domore_core.proofs.Runs.{invariant_step, invariant_opening, invariant_holds}
 
-module _ {B C P : Type 0} (m : Setup B C P) (nest : Nest) (tree : B → Cut) (start : C) (setup : IsSetupFor m nest tree start) (s : State B C P) (trace : List Access) (i : Invariant m nest tree s trace) where
+module _ {B C P : Type 0} (m : Setup B C P) (nest : Nest) (what : B → ℕ × List ℤ) (start : C) (setup : IsSetupFor m nest what start) (s : State B C P) (trace : List Access) (i : Invariant m nest what s trace) where
   abbrev pub seat : ℕ → Seat B P
   seat u = seat_at s.seats u
 
@@ -51,8 +51,8 @@ module _ {B C P : Type 0} (m : Setup B C P) (nest : Nest) (tree : B → Cut) (st
 
   -- a stop has less fuel behind it
   read_fuel : (u k w : ℕ) (next : ℤ → P) (piece : P) (told : Option ℤ) → Holds m s u k [] piece → m.system.stop piece ≡ Loads w next → m.system.fixed w ≡ told → m.system.fuel (next (word_at s.words w)) < m.system.fuel piece
-  read_fuel u k w next piece None h stop is = (left_read m.system (family_of m.system.fixed nest k) _ piece w next k (word_at s.words w) (left_at m nest tree s trace i.tickets i.words.fixed_words i.parts u k [] piece h.own h.hand) stop is).1
-  read_fuel u k w next piece (Some value) h stop is = subst (λ x. m.system.fuel (next x) < m.system.fuel piece) (sym (i.words.fixed_words w value is)) (left_told m.system (family_of m.system.fixed nest k) _ piece w next value (left_at m nest tree s trace i.tickets i.words.fixed_words i.parts u k [] piece h.own h.hand) stop is).1
+  read_fuel u k w next piece None h stop is = (left_read m.system (family_of m.system.fixed nest k) _ piece w next k (word_at s.words w) (left_at m nest what s trace i.tickets i.words.fixed_words i.parts u k [] piece h.own h.hand) stop is).1
+  read_fuel u k w next piece (Some value) h stop is = subst (λ x. m.system.fuel (next x) < m.system.fuel piece) (sym (i.words.fixed_words w value is)) (left_told m.system (family_of m.system.fixed nest k) _ piece w next value (left_at m nest what s trace i.tickets i.words.fixed_words i.parts u k [] piece h.own h.hand) stop is).1
 
   -- a held iteration goes on with less weight
   held_falls : (u k : ℕ) (left : List Wait) (piece : P) (move : Move B C P) → u < m.width → (seat u).hand ≡ Holding k left piece → (seat_after m s.words (seat u) move).queue ≡ (seat u).queue → hand_weight m nest (seat_after m s.words (seat u) move).hand < 2 + length left + m.system.fuel piece → scheduler_weight m nest s.halted s.cursor s.next (trap_after m s.trap move) ≤ scheduler_weight m nest s.halted s.cursor s.next s.trap → measure m nest (worker_after m s u move) < measure m nest s
@@ -68,7 +68,7 @@ module _ {B C P : Type 0} (m : Setup B C P) (nest : Nest) (tree : B → Cut) (st
   going_is : (event : Event B C) (u : ℕ) → IsFree m s u → m.event s.cursor ≡ event → scheduler_weight m nest s.halted s.cursor s.next s.trap ≡ suc (event_weight m nest (ahead m nest most) s.next event)
   going_is event u free is = ap (λ b. scheduler_weight m nest b s.cursor s.next s.trap) free.going
       ∙ ap (λ t. going_weight m nest s.cursor s.next t) free.untrapped
-      ∙ ap suc (ahead_is m nest tree (i.course.going free.untrapped).passed s.next s.cursor (i.course.going free.untrapped).behind ∙ ap (event_weight m nest (ahead m nest most) s.next) is)
+      ∙ ap suc (ahead_is m nest what (i.course.going free.untrapped).passed s.next s.cursor (i.course.going free.untrapped).behind ∙ ap (event_weight m nest (ahead m nest most) s.next) is)
 
   still_going : (halted : Bool) (trap : Option Place) (cursor : C) (next : ℕ) → halted ≡ false → trap ≡ None → scheduler_weight m nest halted cursor next trap ≡ suc (ahead m nest most cursor next)
   still_going halted trap cursor next on none = ap (λ b. scheduler_weight m nest b cursor next trap) on ∙ ap (going_weight m nest cursor next) none
@@ -106,7 +106,7 @@ module _ {B C P : Type 0} (m : Setup B C P) (nest : Nest) (tree : B → Cut) (st
   falls_row u (DoClose rest) (free, is) = let a : scheduler_weight m nest s.halted s.cursor s.next s.trap ≡ suc (suc (ahead m nest most rest s.next)) = going_is (Close rest) u free is in let b : scheduler_weight m nest s.halted rest s.next s.trap ≡ suc (ahead m nest most rest s.next) = still_going s.halted s.trap rest s.next free.going free.untrapped in omega arith
   falls_row u (DoDrain purpose trap rest) (traps, rests, free, is, trap_is, rest_is, all) = onward_falls u (record s { facts = _ }) purpose trap rest free refl refl refl refl
       (going_is (Drain purpose traps rests) u free is
-      ∙ ap (λ o. suc (option_map_or (λ words. suc (behind_trap (traps words) (ahead m nest most (rests words) s.next))) o 0)) (words_are m nest tree start setup s trace i.guarded i.words i.parts i.course.known (λ k lt. all_finished_at m.width s.next k s.seats all lt))
+      ∙ ap (λ o. suc (option_map_or (λ words. suc (behind_trap (traps words) (ahead m nest most (rests words) s.next))) o 0)) (words_are m nest what start setup s trace i.guarded i.words i.parts i.course.known (λ k lt. all_finished_at m.width s.next k s.seats all lt))
       ∙ ap (λ t. suc (suc (behind_trap t (ahead m nest most (rests s.words) s.next)))) trap_is
       ∙ ap (λ c. suc (suc (behind_trap trap (ahead m nest most c s.next)))) rest_is)
   falls_row u (DoDispatch b rest) (free, is, room) = dispatch_falls u b rest free is
@@ -114,8 +114,8 @@ module _ {B C P : Type 0} (m : Setup B C P) (nest : Nest) (tree : B → Cut) (st
   falls_row u (DoTake ticket queue) (idle, below) = idle_falls u (ticket ∷ queue) (DoTake ticket queue) idle refl (let c : sum_by (ticket_weight m nest) (ticket ∷ queue) ≡ 2 + length ticket.waits + m.system.fuel (m.entry ticket.body) + sum_by (ticket_weight m nest) queue = sum_by-cons (ticket_weight m nest) ticket queue in omega arith)
   falls_row u (DoPass k w left piece) (h, over) = held_falls u k (w ∷ left) piece (DoPass k w left piece) h.own h.hand refl (omega arith) (omega arith)
   falls_row u (DoRead k w next) (piece, h, stop) = held_falls u k [] piece (DoRead k w next) h.own h.hand refl (let f : m.system.fuel (next (word_at s.words w)) < m.system.fuel piece = read_fuel u k w next piece (m.system.fixed w) h stop refl in omega arith) (omega arith)
-  falls_row u (DoWrite k w value next) (piece, h, stop) = held_falls u k [] piece (DoWrite k w value next) h.own h.hand refl (let f : m.system.fuel next < m.system.fuel piece = (left_write m.system (family_of m.system.fixed nest k) _ piece w value next k (left_at m nest tree s trace i.tickets i.words.fixed_words i.parts u k [] piece h.own h.hand) stop).2 in omega arith) (omega arith)
-  falls_row u (DoGo k next) (piece, h, stop) = held_falls u k [] piece (DoGo k next) h.own h.hand refl (let f : m.system.fuel next < m.system.fuel piece = (left_go m.system (family_of m.system.fixed nest k) _ piece next (left_at m nest tree s trace i.tickets i.words.fixed_words i.parts u k [] piece h.own h.hand) stop).1 in omega arith) (omega arith)
+  falls_row u (DoWrite k w value next) (piece, h, stop) = held_falls u k [] piece (DoWrite k w value next) h.own h.hand refl (let f : m.system.fuel next < m.system.fuel piece = (left_write m.system (family_of m.system.fixed nest k) _ piece w value next k (left_at m nest what s trace i.tickets i.words.fixed_words i.parts u k [] piece h.own h.hand) stop).2 in omega arith) (omega arith)
+  falls_row u (DoGo k next) (piece, h, stop) = held_falls u k [] piece (DoGo k next) h.own h.hand refl (let f : m.system.fuel next < m.system.fuel piece = (left_go m.system (family_of m.system.fixed nest k) _ piece next (left_at m nest what s trace i.tickets i.words.fixed_words i.parts u k [] piece h.own h.hand) stop).1 in omega arith) (omega arith)
   falls_row u (DoFinish k) (piece, h, stop) = held_falls u k [] piece (DoFinish k) h.own h.hand refl (omega arith) (omega arith)
   falls_row u (DoTrap k cause line) (piece, h, stop) = held_falls u k [] piece (DoTrap k cause line) h.own h.hand refl (omega arith) (trap_weighs_less s.halted s.trap _)
   falls_row u (DoDropHeld k) (left, piece, own, h, above) = held_falls u k left piece (DoDropHeld k) own h refl (omega arith) (omega arith)
@@ -128,14 +128,14 @@ module _ {B C P : Type 0} (m : Setup B C P) (nest : Nest) (tree : B → Cut) (st
       go : IsStep m s u t → measure m nest t < measure m nest s
       go is = subst (λ x. measure m nest x < measure m nest s) (sym is.behind) (falls_row u is.move is.guard)
 
-module _ {B C P : Type 0} (m : Setup B C P) (nest : Nest) (tree : B → Cut) (start : C) (setup : IsSetupFor m nest tree start) where
-  run_falls : (history : List ℕ) (s t : State B C P) (trace : List Access) → Invariant m nest tree s trace → run (step m) s history ≡ Some t → length history + measure m nest t ≤ measure m nest s
+module _ {B C P : Type 0} (m : Setup B C P) (nest : Nest) (what : B → ℕ × List ℤ) (start : C) (setup : IsSetupFor m nest what start) where
+  run_falls : (history : List ℕ) (s t : State B C P) (trace : List Access) → Invariant m nest what s trace → run (step m) s history ≡ Some t → length history + measure m nest t ≤ measure m nest s
   run_falls [] s t trace i e = let is : s ≡ t = cc in subst (λ x. 0 + measure m nest x ≤ measure m nest s) is (omega arith)
-  run_falls (u ∷ history) s t trace i e = go (step m s u) refl e (λ x is. run_falls history x t (trace ++ made_by m s u) (invariant_step m nest tree start setup s x trace u is i))
+  run_falls (u ∷ history) s t trace i e = go (step m s u) refl e (λ x is. run_falls history x t (trace ++ made_by m s u) (invariant_step m nest what start setup s x trace u is i))
     where
       go : (o : Option (State B C P)) → step m s u ≡ o → option_and_then (λ x. run (step m) x history) o ≡ Some t → ((x : State B C P) → step m s u ≡ Some x → run (step m) x history ≡ Some t → length history + measure m nest t ≤ measure m nest x) → suc (length history) + measure m nest t ≤ measure m nest s
       go None is e more = cc
-      go (Some x) is e more = let l : length history + measure m nest t ≤ measure m nest x = more x is e in let f : measure m nest x < measure m nest s = falls_step m nest tree start setup s trace i u x is in omega arith
+      go (Some x) is e more = let l : length history + measure m nest t ≤ measure m nest x = more x is e in let f : measure m nest x < measure m nest s = falls_step m nest what start setup s trace i u x is in omega arith
 
   seats_weigh : (n : ℕ) → sum_by (seat_weight m nest) (replicate n opening_seat) ≡ n
   seats_weigh zero = refl
@@ -143,15 +143,15 @@ module _ {B C P : Type 0} (m : Setup B C P) (nest : Nest) (tree : B → Cut) (st
 
   within_bound : (cost : ℕ → ℕ) → Costs m nest (length (events nest)) cost start 0 → measure m nest (opening m start nest.opening) ≤ bound nest m.width cost
   within_bound cost costs =
-      let l : ahead m nest (length (events nest)) start 0 + 0 + 0 ≤ length (events nest) + sum_below _ (λ k. cost k + m.width + 1) = bounded m nest tree cost (length (events nest)) [] 0 start (begins B C nest tree m.event start setup.follows) costs in
+      let l : ahead m nest (length (events nest)) start 0 + 0 + 0 ≤ length (events nest) + sum_below _ (λ k. cost k + m.width + 1) = bounded m nest what cost (length (events nest)) [] 0 start (begins B C nest what m.event start setup.follows) costs in
       let w : sum_by (seat_weight m nest) (replicate m.width opening_seat) ≡ m.width = seats_weigh m.width in
       omega arith
 
 pub falls : (B C P : Type 0) → StepsFall B C P
-falls B C P m nest tree start setup history s t actor leads e = falls_step m nest tree start setup s (trace_from m (opening m start nest.opening) history) (invariant_holds m nest tree start setup history s leads) actor t e
+falls B C P m nest what start setup history s t actor leads e = falls_step m nest what start setup s (trace_from m (opening m start nest.opening) history) (invariant_holds m nest what start setup history s leads) actor t e
 
 pub is_bounded : (B C P : Type 0) → HistoriesAreBounded B C P
-is_bounded B C P m nest tree start setup history s leads = let l : length history + measure m nest s ≤ measure m nest (opening m start nest.opening) = run_falls m nest tree start setup history (opening m start nest.opening) s [] (invariant_opening m nest tree start setup) leads in omega arith
+is_bounded B C P m nest what start setup history s leads = let l : length history + measure m nest s ≤ measure m nest (opening m start nest.opening) = run_falls m nest what start setup history (opening m start nest.opening) s [] (invariant_opening m nest what start setup) leads in omega arith
 
 pub opening_within : (B C P : Type 0) → OpeningIsWithinBound B C P
-opening_within B C P m nest tree start cost setup costs = within_bound m nest tree start setup cost costs
+opening_within B C P m nest what start cost setup costs = within_bound m nest what start setup cost costs

@@ -6,7 +6,6 @@ use Rattle.std.specs.Option.{option_map_or}
 use Rattle.std.specs.List.{list_all}
 use Rattle.nest_syntax.specs.declared.place.Place.{Place}
 use Rattle.nest_syntax.specs.Outcome.{Done, TrappedAt, Ends, place_of_trap}
-use Rattle.settle_law.specs.Cuts.{Cut}
 use Rattle.settle_law.specs.Traces.{Access}
 use Rattle.settle_law.specs.Courses.{Nest, End, AtEvent, reached, outcome}
 use Rattle.settle_law.proofs.Cursors.{at_event}
@@ -62,7 +61,7 @@ all_at [] u all lt = absurd (omega arith)
 all_at (x ∷ seats) zero all lt = hand_gone x.hand (and_parts _ _ all).0
 all_at (x ∷ seats) (suc u) all lt = all_at seats u (and_parts _ _ all).1 (omega arith)
 
-module _ {B C P : Type 0} (m : Setup B C P) (nest : Nest) (tree : B → Cut) (start : C) (setup : IsSetupFor m nest tree start) (s : State B C P) (trace : List Access) (i : Invariant m nest tree s trace) (finished : is_finished m s ≡ true) where
+module _ {B C P : Type 0} (m : Setup B C P) (nest : Nest) (what : B → ℕ × List ℤ) (start : C) (setup : IsSetupFor m nest what start) (s : State B C P) (trace : List Access) (i : Invariant m nest what s trace) (finished : is_finished m s ≡ true) where
   over : s.halted ≡ true
   over = (and_parts _ _ finished).0
 
@@ -84,11 +83,11 @@ module _ {B C P : Type 0} (m : Setup B C P) (nest : Nest) (tree : B → Cut) (st
   all_done : s.trap ≡ None → (k : ℕ) → k < s.next → k < done_at s.seats (k % m.width)
   all_done none k lt = done_unless k lt (λ cut. subst (λ t. IsCutBy t k) none cut)
 
-  at_end : (none : s.trap ≡ None) → AtEvent nest tree m.event (i.course.going none).passed s.next End
-  at_end none = subst (AtEvent nest tree m.event (i.course.going none).passed s.next) (i.course.over over none) (at_event nest tree m.event (i.course.going none).passed s.next s.cursor (i.course.going none).behind)
+  at_end : (none : s.trap ≡ None) → AtEvent nest what m.event (i.course.going none).passed s.next End
+  at_end none = subst (AtEvent nest what m.event (i.course.going none).passed s.next) (i.course.over over none) (at_event nest what m.event (i.course.going none).passed s.next s.cursor (i.course.going none).behind)
 
   textual : s.trap ≡ None → reached nest s.next ≡ Some s.words
-  textual none = words_are m nest tree start setup s trace i.guarded i.words i.parts i.course.known (all_done none)
+  textual none = words_are m nest what start setup s trace i.guarded i.words i.parts i.course.known (all_done none)
 
   untrapped : s.trap ≡ None → outcome nest ≡ Done s.words
   untrapped none = (at_end none).2 s.words (textual none)
@@ -97,8 +96,8 @@ module _ {B C P : Type 0} (m : Setup B C P) (nest : Nest) (tree : B → Cut) (st
   trapped t is = ⊎_elim
       (λ scheduler. let e = subst (EarlyTrap nest s.next) is i.course.early scheduler in
       let number : t.number ≡ s.next = e.0 in
-      e.1 s.words (words_are m nest tree start setup s trace i.guarded i.words i.parts i.course.known (λ k lt. done_unless k lt (cut k lt number))))
-      (λ worker. traps_at m nest tree start setup s trace i.guarded i.words i.parts i.course.known t.number t.cause t.line
+      e.1 s.words (words_are m nest what start setup s trace i.guarded i.words i.parts i.course.known (λ k lt. done_unless k lt (cut k lt number))))
+      (λ worker. traps_at m nest what start setup s trace i.guarded i.words i.parts i.course.known t.number t.cause t.line
       (subst (LateTrap s.next) is i.course.late worker)
       (λ k lt. let below : t.number < s.next = subst (LateTrap s.next) is i.course.late worker in done_unless k (omega arith) (lower k lt))
       (subst (TrapParts _ trace) is i.parts.trapped worker)
@@ -124,5 +123,5 @@ module _ {B C P : Type 0} (m : Setup B C P) (nest : Nest) (tree : B → Cut) (st
   counts_as_nest words done = go s.trap refl
     where
       go : (trap : Option Place) → s.trap ≡ trap → s.facts ≡ facts_of (waits m) nest
-      go None is = (i.course.going is).counted ∙ sym (facts_append (waits m) no_facts (i.course.going is).passed (Ends ∷ [])) ∙ ap (facts_from (waits m) no_facts) (sym (at_end is).0)
+      go None is = (i.course.going is).counted ∙ sym (facts_append (waits m) 0 s.next no_facts (i.course.going is).passed (Ends ∷ []) (omega (arith, (i.course.going is).behind.counts))) ∙ ap (facts_from (waits m) 0 no_facts) (sym (at_end is).0)
       go (Some t) is = let no : TrappedAt t ≡ Done words = sym (trapped t is) ∙ done in cc

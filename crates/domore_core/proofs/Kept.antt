@@ -6,7 +6,7 @@ use Rattle.std.proofs.lemmas.Nat.{mod_below}
 use Rattle.std.specs.Option.{option_map_or}
 use Rattle.nest_syntax.specs.Arrays.{word_at}
 use Rattle.settle_law.specs.Trees.{Tree}
-use Rattle.settle_law.specs.Cuts.{Cut, plain}
+use Rattle.settle_law.specs.Cuts.{plain}
 use Rattle.settle_law.specs.Traces.{Access, Read, Write, iteration, Each, apply, Conflict, part, Apart}
 use Rattle.settle_law.specs.Tasks.{Loads, Stores, Left}
 use Rattle.settle_law.specs.Courses.{Nest, family_of}
@@ -28,7 +28,7 @@ has_last : (trace : List Access) (b : Access) → Has b (trace ++ b ∷ [])
 has_last [] b = inl refl
 has_last (a ∷ trace) b = inr (has_last trace b)
 
-module _ {B C P : Type 0} (m : Setup B C P) (nest : Nest) (tree : B → Cut) (s : State B C P) (trace : List Access) (tickets : AllTickets m s) (waiting : AllWaits m s) (guards : Guarded m s trace) (words : WordsKept m.system.fixed nest.opening trace s.words) (parts : AllParts m nest tree s trace) where
+module _ {B C P : Type 0} (m : Setup B C P) (nest : Nest) (what : B → ℕ × List ℤ) (s : State B C P) (trace : List Access) (tickets : AllTickets m s) (waiting : AllWaits m s) (guards : Guarded m s trace) (words : WordsKept m.system.fixed nest.opening trace s.words) (parts : AllParts m nest what s trace) where
   abbrev pub family : ℕ → Tree
   family = family_of m.system.fixed nest
 
@@ -119,14 +119,14 @@ module _ {B C P : Type 0} (m : Setup B C P) (nest : Nest) (tree : B → Cut) (s 
     read_words : (u k w : ℕ) (piece : P) (next : ℤ → P) (told : Option ℤ) → Holds m s u k [] piece → m.system.stop piece ≡ Loads w next → m.system.fixed w ≡ told → WordsKept m.system.fixed nest.opening (trace ++ option_map_or (λ x. []) told (Read k w (word_at s.words w) ∷ [])) s.words
     read_words u k w piece next None h stop is = record {
       replays = replays_push nest.opening trace (Read k w (word_at s.words w)) words.replays (ap (λ x. word_at x w) words.settles);
-      in_order = in_order_push trace (Read k w (word_at s.words w)) words.in_order (leads u k piece (next (word_at s.words w)) (Read k w (word_at s.words w)) h refl (left_read m.system (family k) (part k trace) piece w next k (word_at s.words w) (left_at m nest tree s trace tickets words.fixed_words parts u k [] piece h.own h.hand) stop is).0);
+      in_order = in_order_push trace (Read k w (word_at s.words w)) words.in_order (leads u k piece (next (word_at s.words w)) (Read k w (word_at s.words w)) h refl (left_read m.system (family k) (part k trace) piece w next k (word_at s.words w) (left_at m nest what s trace tickets words.fixed_words parts u k [] piece h.own h.hand) stop is).0);
       settles = settle_push nest.opening trace (Read k w (word_at s.words w)) ∙ words.settles;
       fixed_words = words.fixed_words;
     }
     read_words u k w piece next (Some value) h stop is = subst (λ x. WordsKept m.system.fixed nest.opening x s.words) (sym (append-nil trace)) words
 
     write_words : (u k w : ℕ) (value : ℤ) (piece next : P) → Holds m s u k [] piece → m.system.stop piece ≡ Stores w value next → WordsKept m.system.fixed nest.opening (trace ++ Write k w value ∷ []) (apply s.words (Write k w value))
-    write_words u k w value piece next h stop = let l = left_write m.system (family k) (part k trace) piece w value next k (left_at m nest tree s trace tickets words.fixed_words parts u k [] piece h.own h.hand) stop in record {
+    write_words u k w value piece next h stop = let l = left_write m.system (family k) (part k trace) piece w value next k (left_at m nest what s trace tickets words.fixed_words parts u k [] piece h.own h.hand) stop in record {
       replays = replays_push nest.opening trace (Write k w value) words.replays tt;
       in_order = in_order_push trace (Write k w value) words.in_order (leads u k piece next (Write k w value) h refl l.1);
       settles = settle_push nest.opening trace (Write k w value) ∙ ap (λ x. apply x (Write k w value)) words.settles;

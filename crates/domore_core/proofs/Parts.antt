@@ -10,10 +10,12 @@ use Rattle.nest_syntax.specs.Arrays.{word_at}
 use Rattle.nest_syntax.specs.Outcome.{place_of_trap}
 use Rattle.settle_law.specs.Trees.{Tree}
 use Rattle.settle_law.specs.Trees as trees
-use Rattle.settle_law.specs.Cuts.{Cut, plain, HoldsFixed}
+use Rattle.settle_law.specs.Cuts.{plain, HoldsFixed}
 use Rattle.settle_law.specs.Traces.{Access, Read, Write, iteration, part, Makes, Fits, IsFinished, IsTrapped}
-use Rattle.settle_law.specs.Tasks.{Loads, Finishes, Traps, Realises, Left}
-use Rattle.settle_law.specs.Courses.{Nest, Iterate, family_of}
+use Rattle.settle_law.specs.Tasks.{Loads, Finishes, Traps, Left}
+use Rattle.settle_law.specs.Courses.{Nest, Iterate, family_of, iteration_at, cut_at}
+use Rattle.settle_law.specs.Reading.{BodiesBegin}
+use Rattle.settle_law.proofs.Nests.{family_at}
 use Rattle.settle_law.proofs.Push.{part_push_own, part_push_other}
 use Rattle.settle_law.proofs.Tasks.{left_read, left_told, left_write, left_go, left_finished, left_trapped, left_begins}
 use Rattle.domore_core.specs.Waits.{Wait}
@@ -33,7 +35,7 @@ trapped_stays (trees.Load w go) (Write k u value ∷ made) a rest cause line t m
 trapped_stays (trees.Store w new tree) (Read k u value ∷ made) a rest cause line t m = t
 trapped_stays (trees.Store w new tree) (Write k u value ∷ made) a rest cause line t m = trapped_stays tree made a rest cause line t.2 m.2
 
-module _ {B C P : Type 0} (m : Setup B C P) (nest : Nest) (tree : B → Cut) (s : State B C P) (trace : List Access) (tickets : AllTickets m s) (fixed_words : HoldsFixed m.system.fixed s.words) (i : AllParts m nest tree s trace) where
+module _ {B C P : Type 0} (m : Setup B C P) (nest : Nest) (what : B → ℕ × List ℤ) (s : State B C P) (trace : List Access) (tickets : AllTickets m s) (fixed_words : HoldsFixed m.system.fixed s.words) (i : AllParts m nest what s trace) where
   abbrev pub family : ℕ → Tree
   family = family_of m.system.fixed nest
 
@@ -42,7 +44,7 @@ module _ {B C P : Type 0} (m : Setup B C P) (nest : Nest) (tree : B → Cut) (s 
 
   -- a queued ticket has no part yet
   abbrev pub IsUnbegun : List Access → Ticket B → Type 0
-  IsUnbegun trace t = (plain m.system.fixed (tree t.body) ≡ family t.number) × (part t.number trace ≡ [])
+  IsUnbegun trace t = (iteration_at nest t.number ≡ Some (what t.body)) × (part t.number trace ≡ [])
 
   hand_at : (u : ℕ) (hand : Hand P) → u < m.width → (seat u).hand ≡ hand → HandParts m nest trace hand
   hand_at u hand own h = subst (HandParts m nest trace) h (i.seats u own).hand
@@ -54,18 +56,18 @@ module _ {B C P : Type 0} (m : Setup B C P) (nest : Nest) (tree : B → Cut) (s 
   queue_at u queue own q = subst (Each (IsUnbegun trace)) q (i.seats u own).queue
 
   -- a row without an access, that sets one seat
-  set_parts : (u : ℕ) (x : Seat B P) → u < m.width → SeatParts m nest tree trace u x → (v : ℕ) → v < m.width → SeatParts m nest tree trace v (seat_at (slice_set s.seats u x) v)
-  set_parts u x own new v lt = each_set (λ w y. w < m.width → SeatParts m nest tree trace w y) s.seats u x (inside m s tickets u own) (λ l. new) (λ w other l. i.seats w l) v lt
+  set_parts : (u : ℕ) (x : Seat B P) → u < m.width → SeatParts m nest what trace u x → (v : ℕ) → v < m.width → SeatParts m nest what trace v (seat_at (slice_set s.seats u x) v)
+  set_parts u x own new v lt = each_set (λ w y. w < m.width → SeatParts m nest what trace w y) s.seats u x (inside m s tickets u own) (λ l. new) (λ w other l. i.seats w l) v lt
 
-  worker_row : (u : ℕ) (move : Move B C P) → u < m.width → SeatParts m nest tree trace u (seat_after m s.words (seat u) move) → TrapParts family trace (trap_after m s.trap move) → AllParts m nest tree (worker_after m s u move) trace
+  worker_row : (u : ℕ) (move : Move B C P) → u < m.width → SeatParts m nest what trace u (seat_after m s.words (seat u) move) → TrapParts family trace (trap_after m s.trap move) → AllParts m nest what (worker_after m s u move) trace
   worker_row u move own new trapped = record { seats = set_parts u (seat_after m s.words (seat u) move) own new; later = i.later; fits = i.fits; trapped = trapped }
 
-  quiet_row : (u : ℕ) (move : Move B C P) → u < m.width → HandParts m nest trace (seat_after m s.words (seat u) move).hand → Each (IsUnbegun trace) (seat_after m s.words (seat u) move).queue → (seat_after m s.words (seat u) move).done ≡ (seat u).done → trap_after m s.trap move ≡ s.trap → AllParts m nest tree (worker_after m s u move) trace
+  quiet_row : (u : ℕ) (move : Move B C P) → u < m.width → HandParts m nest trace (seat_after m s.words (seat u) move).hand → Each (IsUnbegun trace) (seat_after m s.words (seat u) move).queue → (seat_after m s.words (seat u) move).done ≡ (seat u).done → trap_after m s.trap move ≡ s.trap → AllParts m nest what (worker_after m s u move) trace
   quiet_row u move own hand queue done trap = worker_row u move own
       (record { finished = λ k mine lt. (i.seats u own).finished k mine (omega arith); hand = hand; queue = queue })
       (subst (TrapParts family trace) (sym trap) i.trapped)
 
-  finish_row : (u k : ℕ) (piece : P) → Holds m s u k [] piece → m.system.stop piece ≡ Finishes → AllParts m nest tree (worker_after m s u (DoFinish k)) trace
+  finish_row : (u k : ℕ) (piece : P) → Holds m s u k [] piece → m.system.stop piece ≡ Finishes → AllParts m nest what (worker_after m s u (DoFinish k)) trace
   finish_row u k piece h stop = worker_row u (DoFinish k) h.own (record { finished = finished; hand = tt; queue = (i.seats u h.own).queue }) i.trapped
     where
       mine : (k % m.width ≡ u) × (k < s.next)
@@ -85,7 +87,7 @@ module _ {B C P : Type 0} (m : Setup B C P) (nest : Nest) (tree : B → Cut) (s 
           (cases_eq j k))
           (cases_lt j (done_at s.seats u))
 
-  trap_row : (u k : ℕ) (piece : P) (cause : Cause) (line : Line) → Holds m s u k [] piece → m.system.stop piece ≡ Traps cause line → AllParts m nest tree (worker_after m s u (DoTrap k cause line)) trace
+  trap_row : (u k : ℕ) (piece : P) (cause : Cause) (line : Line) → Holds m s u k [] piece → m.system.stop piece ≡ Traps cause line → AllParts m nest what (worker_after m s u (DoTrap k cause line)) trace
   trap_row u k piece cause line h stop = worker_row u (DoTrap k cause line) h.own (record { finished = (i.seats u h.own).finished; hand = tt; queue = (i.seats u h.own).queue }) (least s.trap i.trapped)
     where
       new : IsTrapped (family k) (part k trace) cause line
@@ -118,7 +120,7 @@ module _ {B C P : Type 0} (m : Setup B C P) (nest : Nest) (tree : B → Cut) (s 
     other_queue low v [] other r each = tt
     other_queue low v (t ∷ queue) other r each = ((each.0.0, others t.number (other t.number r.0 r.1) ∙ each.0.1), other_queue (suc t.number) v queue (λ j le own. let l : low ≤ t.number = r.0 in other j (omega arith) own) r.3 each.1)
 
-    other_seat : (v : ℕ) → (v ≡ u → ⊥) → v < m.width → SeatParts m nest tree (trace ++ a ∷ []) v (seat v)
+    other_seat : (v : ℕ) → (v ≡ u → ⊥) → v < m.width → SeatParts m nest what (trace ++ a ∷ []) v (seat v)
     other_seat v other lt = record {
       finished = λ j own l. subst (IsFinished (family j)) (sym (others j (elsewhere v j other own))) ((i.seats v lt).finished j own l);
       hand = other_hand v (seat v).hand other lt refl (i.seats v lt).hand;
@@ -130,7 +132,7 @@ module _ {B C P : Type 0} (m : Setup B C P) (nest : Nest) (tree : B → Cut) (s 
         queue (Holding j left q) is = other_queue (suc j) v (seat v).queue (λ x le own. elsewhere v x other own) (held m s tickets v j left q lt is).rises.3 (i.seats v lt).queue
         queue Gone is = other_queue (seat v).done v (seat v).queue (λ j le own. elsewhere v j other own) (tickets_at m s tickets v Gone (seat v).queue lt is refl).rises (i.seats v lt).queue
 
-    own_seat : SeatParts m nest tree (trace ++ a ∷ []) u (record { hand = Holding k [] next; queue = (seat u).queue; done = (seat u).done })
+    own_seat : SeatParts m nest what (trace ++ a ∷ []) u (record { hand = Holding k [] next; queue = (seat u).queue; done = (seat u).done })
     own_seat = record {
       finished = λ j own l. let d : (seat u).done ≤ k = (held m s tickets u k [] piece h.own h.hand).rises.0 in subst (IsFinished (family j)) (sym (others j (λ same. omega arith))) ((i.seats u h.own).finished j own l);
       hand = subst (λ made. Left m.system (family k) made next) (sym (part_push_own k trace a own_access)) new;
@@ -144,10 +146,10 @@ module _ {B C P : Type 0} (m : Setup B C P) (nest : Nest) (tree : B → Cut) (s 
         (λ other. subst (λ made. IsTrapped (family t.number) made t.cause t.line) (sym (others t.number other)) (old worker))
         (cases_eq t.number k)
 
-    access_row : (move : Move B C P) → seat_after m s.words (seat u) move ≡ record { hand = Holding k [] next; queue = (seat u).queue; done = (seat u).done } → trap_after m s.trap move ≡ s.trap → AllParts m nest tree (worker_after m s u move) (trace ++ a ∷ [])
+    access_row : (move : Move B C P) → seat_after m s.words (seat u) move ≡ record { hand = Holding k [] next; queue = (seat u).queue; done = (seat u).done } → trap_after m s.trap move ≡ s.trap → AllParts m nest what (worker_after m s u move) (trace ++ a ∷ [])
     access_row move is trap = record {
-      seats = λ v lt. each_set (λ w y. w < m.width → SeatParts m nest tree (trace ++ a ∷ []) w y) s.seats u (seat_after m s.words (seat u) move) (inside m s tickets u h.own)
-          (λ l. subst (SeatParts m nest tree (trace ++ a ∷ []) u) (sym is) own_seat) (λ w other l. other_seat w other l) v lt;
+      seats = λ v lt. each_set (λ w y. w < m.width → SeatParts m nest what (trace ++ a ∷ []) w y) s.seats u (seat_after m s.words (seat u) move) (inside m s tickets u h.own)
+          (λ l. subst (SeatParts m nest what (trace ++ a ∷ []) u) (sym is) own_seat) (λ w other l. other_seat w other l) v lt;
       later = λ j ge. let l : k < s.next = mine.1 in others j (λ same. omega arith) ∙ i.later j ge;
       fits = λ j. ⊎_elim
           (λ same. subst (λ x. Fits (family x) (part x (trace ++ a ∷ []))) (sym same) (subst (Fits (family k)) (sym (part_push_own k trace a own_access)) (plain m.system.fixed new.left, new.makes)))
@@ -157,10 +159,10 @@ module _ {B C P : Type 0} (m : Setup B C P) (nest : Nest) (tree : B → Cut) (s 
     }
 
   -- no access: the trace stays
-  same_trace : (t : State B C P) → AllParts m nest tree t trace → AllParts m nest tree t (trace ++ [])
-  same_trace t all = subst (AllParts m nest tree t) (sym (append-nil trace)) all
+  same_trace : (t : State B C P) → AllParts m nest what t trace → AllParts m nest what t (trace ++ [])
+  same_trace t all = subst (AllParts m nest what t) (sym (append-nil trace)) all
 
-  read_row : (u k w : ℕ) (next : ℤ → P) (piece : P) (told : Option ℤ) → Holds m s u k [] piece → m.system.stop piece ≡ Loads w next → m.system.fixed w ≡ told → AllParts m nest tree (worker_after m s u (DoRead k w next)) (trace ++ option_map_or (λ t. []) told (Read k w (word_at s.words w) ∷ []))
+  read_row : (u k w : ℕ) (next : ℤ → P) (piece : P) (told : Option ℤ) → Holds m s u k [] piece → m.system.stop piece ≡ Loads w next → m.system.fixed w ≡ told → AllParts m nest what (worker_after m s u (DoRead k w next)) (trace ++ option_map_or (λ t. []) told (Read k w (word_at s.words w) ∷ []))
   read_row u k w next piece None h stop is = access_row u k piece (next (word_at s.words w)) (Read k w (word_at s.words w)) h refl
       (left_read m.system (family k) (part k trace) piece w next k (word_at s.words w) (left_at u k [] piece h.own h.hand) stop is).0
       (DoRead k w next) refl refl
@@ -171,12 +173,12 @@ module _ {B C P : Type 0} (m : Setup B C P) (nest : Nest) (tree : B → Cut) (s 
   scheduled : TrapParts family trace s.trap → (cause : Cause) (line : Line) → TrapParts family trace (Some (place_of_trap cause line s.next true))
   scheduled old cause line = λ worker. cc
 
-  dispatch_row : (b : B) (rest : C) → 0 < m.width → plain m.system.fixed (tree b) ≡ family s.next → AllParts m nest tree (state_after m s m.width (DoDispatch b rest)) trace
-  dispatch_row b rest some begins = let u : ℕ = s.next % m.width in record {
+  dispatch_row : (b : B) (rest : C) → 0 < m.width → iteration_at nest s.next ≡ Some (what b) → AllParts m nest what (state_after m s m.width (DoDispatch b rest)) trace
+  dispatch_row b rest some given = let u : ℕ = s.next % m.width in record {
     seats = set_parts (s.next % m.width) (seat_with (seat (s.next % m.width)) (ticket_of m s b)) (mod_below s.next m.width some) (let old = i.seats (s.next % m.width) (mod_below s.next m.width some) in record {
       finished = old.finished;
       hand = old.hand;
-      queue = each_push (IsUnbegun trace) (seat (s.next % m.width)).queue (ticket_of m s b) old.queue (begins, i.later s.next (omega arith));
+      queue = each_push (IsUnbegun trace) (seat (s.next % m.width)).queue (ticket_of m s b) old.queue (given, i.later s.next (omega arith));
     });
     later = λ k ge. i.later k (omega arith);
     fits = i.fits;
@@ -184,7 +186,7 @@ module _ {B C P : Type 0} (m : Setup B C P) (nest : Nest) (tree : B → Cut) (s 
   }
 
   -- each row keeps the parts
-  pub parts_row : (u : ℕ) (move : Move B C P) → 0 < m.width → ((b : B) → Realises m.system (tree b) (m.entry b)) → ((b : B) (rest : C) → s.trap ≡ None → m.event s.cursor ≡ Iterate b rest → plain m.system.fixed (tree b) ≡ family s.next) → Guard m s u move → AllParts m nest tree (state_after m s u move) (trace ++ accesses_of m s.words move)
+  pub parts_row : (u : ℕ) (move : Move B C P) → 0 < m.width → BodiesBegin m.system nest what m.entry → ((b : B) (rest : C) → s.trap ≡ None → m.event s.cursor ≡ Iterate b rest → iteration_at nest s.next ≡ Some (what b)) → Guard m s u move → AllParts m nest what (state_after m s u move) (trace ++ accesses_of m s.words move)
   parts_row u (DoScalar purpose None rest) some begins given g = same_trace _ (record { seats = i.seats; later = i.later; fits = i.fits; trapped = i.trapped })
   parts_row u (DoScalar purpose (Some trap) rest) some begins given g = same_trace _ (record { seats = i.seats; later = i.later; fits = i.fits; trapped = scheduled i.trapped trap.cause trap.line })
   parts_row u (DoClose rest) some begins given g = same_trace _ (record { seats = i.seats; later = i.later; fits = i.fits; trapped = i.trapped })
@@ -193,7 +195,7 @@ module _ {B C P : Type 0} (m : Setup B C P) (nest : Nest) (tree : B → Cut) (s 
   parts_row u (DoDispatch b rest) some begins given g = let d = dispatch_row b rest some (given b rest g.0.untrapped g.1) in same_trace _ (record { seats = d.seats; later = d.later; fits = d.fits; trapped = d.trapped })
   parts_row u DoHalt some begins given g = same_trace _ (record { seats = i.seats; later = i.later; fits = i.fits; trapped = i.trapped })
   parts_row u (DoTake ticket queue) some begins given (idle, below) = let q = queue_at u (ticket ∷ queue) idle.own idle.queued in same_trace _ (quiet_row u (DoTake ticket queue) idle.own
-      (subst (λ made. Left m.system (family ticket.number) made (m.entry ticket.body)) (sym q.0.1) (subst (λ x. Left m.system x [] (m.entry ticket.body)) q.0.0 (left_begins P m.system (tree ticket.body) (m.entry ticket.body) (begins ticket.body))))
+      (subst (λ made. Left m.system (family ticket.number) made (m.entry ticket.body)) (sym q.0.1) (subst (λ x. Left m.system x [] (m.entry ticket.body)) (sym (family_at m.system.fixed nest ticket.number (what ticket.body) q.0.0)) (left_begins P m.system (cut_at nest (what ticket.body)) (m.entry ticket.body) (begins ticket.body ticket.number q.0.0))))
       q.1 refl refl)
   parts_row u (DoPass k w left piece) some begins given (h, over) = same_trace _ (quiet_row u (DoPass k w left piece) h.own (left_at u k (w ∷ left) piece h.own h.hand) (i.seats u h.own).queue refl refl)
   parts_row u (DoRead k w next) some begins given (piece, h, stop) = read_row u k w next piece (m.system.fixed w) h stop refl

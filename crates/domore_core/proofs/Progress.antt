@@ -1,11 +1,10 @@
 -- In each unfinished state with the invariant some actor has a step.
-use Rattle.std.proofs.Common.{◌≡◌, ℕ, zero, suc, ◌%◌, ◌<◌, ◌≤◌, Bool, true, false, if◌then◌else◌, Option, Some, None, IsSome, List, [], ◌∷◌, ◌++◌, length, nat_lt, refl, sym, ap, ◌∙◌, subst, inl, inr, ⊎_elim, arith}
+use Rattle.std.proofs.Common.{◌≡◌, ℕ, zero, suc, ◌%◌, ◌<◌, ◌≤◌, Bool, true, false, if◌then◌else◌, Option, Some, None, IsSome, List, [], ◌∷◌, ◌++◌, length, nat_lt, refl, sym, ap, ◌∙◌, subst, inl, inr, ⊎_elim, arith, ℤ}
 use Rattle.std.proofs.lemmas.Bool.{lt-ltb, le-ltb, eq-eqb, ltb-false, and_cases, cases_lt, true≢false}
 use Rattle.std.proofs.lemmas.Nat.{mod_below}
 use Rattle.std.specs.Option.{option_map}
 use Rattle.std.specs.List.{list_all}
 use Rattle.nest_syntax.specs.declared.place.Place.{Place}
-use Rattle.settle_law.specs.Cuts.{Cut}
 use Rattle.settle_law.specs.Traces.{Access}
 use Rattle.settle_law.specs.Courses.{Nest, Event, End, Scalar, Drain, Iterate, Close}
 use Rattle.domore_core.specs.Waits.{Wait}
@@ -33,7 +32,7 @@ present_at (x ∷ seats) all = ⊎_elim
     (λ others. let u = present_at seats others in let l : u.0 < length seats = u.1 in (suc u.0, omega arith, u.2))
     (and_cases (is_gone x.hand) (list_all (λ (y : Seat _ _). is_gone y.hand) seats) all)
 
-module _ {B C P : Type 0} (m : Setup B C P) (nest : Nest) (tree : B → Cut) (start : C) (setup : IsSetupFor m nest tree start) (s : State B C P) (trace : List Access) (i : Invariant m nest tree s trace) where
+module _ {B C P : Type 0} (m : Setup B C P) (nest : Nest) (what : B → ℕ × List ℤ) (start : C) (setup : IsSetupFor m nest what start) (s : State B C P) (trace : List Access) (i : Invariant m nest what s trace) where
   abbrev pub seat : ℕ → Seat B P
   seat u = seat_at s.seats u
 
@@ -178,4 +177,4 @@ module _ {B C P : Type 0} (m : Setup B C P) (nest : Nest) (tree : B → Cut) (st
           (and_cases s.halted (list_all (λ (x : Seat B P). is_gone x.hand) s.seats) unfinished)
 
 pub goes_on : (B C P : Type 0) → UnfinishedGoOn B C P
-goes_on B C P m nest tree start setup history s leads unfinished = can_go_on m nest tree start setup s (trace_from m (opening m start nest.opening) history) (invariant_holds m nest tree start setup history s leads) unfinished
+goes_on B C P m nest what start setup history s leads unfinished = can_go_on m nest what start setup s (trace_from m (opening m start nest.opening) history) (invariant_holds m nest what start setup history s leads) unfinished

@@ -1,6 +1,6 @@
 -- The definitions on a small nest, computed: a wait that holds a worker up, a drain that waits, a trap, what is dropped
 -- behind it, and the waits and facts of eight iterations in two invocations. The setup keeps the premises of the laws.
-use Rattle.std.proofs.Common.{◌≡◌, ℕ, zero, suc, ◌+◌, ◌%◌, ℤ, pos, ◌+ℤ◌, Bool, true, ◌||◌, ◌==◌, false, Option, Some, None, List, [], ◌∷◌, refl, arith}
+use Rattle.std.proofs.Common.{◌≡◌, ℕ, zero, suc, ◌+◌, ◌%◌, ℤ, pos, ◌+ℤ◌, Bool, true, ◌||◌, ◌==◌, false, Option, Some, None, List, [], ◌∷◌, slice_index_or, refl, arith}
 use Rattle.std.proofs.lemmas.Bool.{true≢false}
 use Rattle.nest_syntax.specs.declared.names.Line.{Line}
 use Rattle.nest_syntax.specs.declared.operators.Cause.TheVariants as cause
@@ -9,21 +9,22 @@ use Rattle.nest_syntax.specs.Turn as turn
 use Rattle.nest_syntax.specs.Course.{Purpose, Ordinary, Header, Course}
 use Rattle.nest_syntax.specs.Course as course
 use Rattle.nest_syntax.specs.Outcome.{Done, TrappedAt, place_of_trap, Event as Passed, Computes, Iterates, Closes, Ends}
-use Rattle.settle_law.specs.Cuts.{Cut, Finished, Trapped, Reads, Writes}
 use Rattle.settle_law.specs.Traces.{Read, Write}
-use Rattle.settle_law.specs.Tasks.{Stop, Loads, Stores, Finishes, Traps, Realises, System}
+use Rattle.settle_law.specs.Tasks.{Stop, Loads, Stores, Finishes, Traps, System}
 use Rattle.settle_law.specs.Courses.{Event, End, Scalar, Drain, Iterate, Close, Nest, outcome}
+use Rattle.settle_law.specs.Runs.{run}
+use Rattle.settle_law.specs.Reading.{BodiesBegin}
 use Rattle.domore_core.specs.Waits.{waits_of}
 use Rattle.domore_core.specs.Facts.{no_facts, facts_from, facts_of}
 use Rattle.domore_core.specs.Machine.{Setup, State, opening, step, waits}
-use Rattle.domore_core.specs.Runs.{run, trace_from, is_finished, ending_of}
+use Rattle.domore_core.specs.Runs.{trace_from, is_finished, ending_of}
 use Rattle.domore_core.specs.Theorems.{IsSetupFor, Completes}
 use Rattle.domore_core.specs.Measure.{bound, measure, Costs}
 use Rattle.domore_core.proofs.Runs.{ends_as}
 
--- a body writes a word, or reads word 0 and writes one more into word 1, or traps
+-- a body writes word 0, or reads it and writes one more into word 1, or traps
 data Body : Type 0 where
-  Sets : ℕ → ℤ → Body
+  Sets : ℤ → Body
   Follows : Body
   Fails : Body
 
@@ -36,13 +37,14 @@ data Piece : Type 0 where
 abbrev line : Line
 line = record { 0 = 4 }
 
-abbrev tree_at : Body → Cut
-tree_at (Sets w value) = Writes w value Finished
-tree_at Follows = Reads 0 (λ value. Writes 1 (value +ℤ pos 1) Finished)
-tree_at Fails = Trapped cause.Index line
+-- which body of the nest below it is, with which scalars
+abbrev what : Body → ℕ × List ℤ
+what (Sets value) = (0, value ∷ [])
+what Follows = (1, [])
+what Fails = (2, [])
 
 abbrev entry_at : Body → Piece
-entry_at (Sets w value) = Storing w value
+entry_at (Sets value) = Storing 0 value
 entry_at Follows = Loading
 entry_at Fails = Failing
 
@@ -60,11 +62,6 @@ fuel_at Over = 0
 
 abbrev pieces : System Piece
 pieces = record { stop = stop_at; fuel = fuel_at; fixed = λ w. None }
-
-realised : (body : Body) → Realises pieces (tree_at body) (entry_at body)
-realised (Sets w value) = (Over, refl, refl, omega arith, refl)
-realised Follows = ((λ value. Storing 1 (value +ℤ pos 1)), refl, λ value can. (omega arith, (Over, refl, refl, omega arith, refl)))
-realised Fails = refl
 
 -- a cursor is the list of the events that are left
 data Item : Type 0 where
@@ -85,22 +82,28 @@ machine = record { system = pieces; event = event_at; entry = entry_at; clashes 
 
 -- iteration 0 writes word 0, iteration 1 reads it and writes word 1, and a drain follows
 abbrev turn_at : ℕ → List ℤ → Turn
-turn_at zero scalars = turn.Store 0 0 (pos 5) turn.Finished
-turn_at (suc body) scalars = turn.Load 0 0 (λ value. turn.Store 0 1 (value +ℤ pos 1) turn.Finished)
+turn_at zero scalars = turn.Store 0 0 (slice_index_or scalars 0 (pos 0)) turn.Finished
+turn_at (suc zero) scalars = turn.Load 0 0 (λ value. turn.Store 0 1 (value +ℤ pos 1) turn.Finished)
+turn_at (suc (suc body)) scalars = turn.Trapped cause.Index line
 
 abbrev nest : Nest
 nest = record {
   sizes = 2 ∷ [];
   turn = turn_at;
-  course = course.Scalar Header [] (course.Iterate 0 [] (course.Iterate 1 [] (course.Close [] (course.Drain Ordinary [] (λ words. course.End)))));
+  course = course.Scalar Header [] (course.Iterate 0 (pos 5 ∷ []) (course.Iterate 1 [] (course.Close [] (course.Drain Ordinary [] (λ words. course.End)))));
   opening = pos 0 ∷ pos 0 ∷ [];
 }
 
 abbrev items : List Item
-items = Compute Header ∷ Iteration (Sets 0 (pos 5)) ∷ Iteration Follows ∷ Closing ∷ Ask ∷ []
+items = Compute Header ∷ Iteration (Sets (pos 5)) ∷ Iteration Follows ∷ Closing ∷ Ask ∷ []
 
 -- it keeps the premises
-setup : IsSetupFor machine nest tree_at items
+realised : BodiesBegin pieces nest what entry_at
+realised (Sets value) k at = (Over, refl, refl, omega arith, refl)
+realised Follows k at = ((λ value. Storing 1 (value +ℤ pos 1)), refl, λ value can. (omega arith, (Over, refl, refl, omega arith, refl)))
+realised Fails k at = refl
+
+setup : IsSetupFor machine nest what items
 setup = record {
   some_worker = omega arith;
   some_room = omega arith;
@@ -136,7 +139,7 @@ textual : outcome nest ≡ Done (pos 5 ∷ pos 6 ∷ [])
 textual = refl
 
 every : (others : List ℕ) (complete : Completes machine nest items others) → ending_of complete.last ≡ Done (pos 5 ∷ pos 6 ∷ [])
-every others complete = ends_as Body (List Item) Piece machine nest tree_at items setup others complete
+every others complete = ends_as Body (List Item) Piece machine nest what items setup others complete
 
 textual_facts : facts_of (waits machine) nest ≡ record { invocations = 1; iterations = 2; drains = 1; waits = 1; crossing = 0; listed = record { number = 1; on = 0; crossing = false } ∷ []; first = 0 }
 textual_facts = refl
@@ -153,7 +156,7 @@ costs = λ none. (omega arith, (omega arith, λ words reach none. tt))
 
 -- iteration 0 traps; iteration 1 is held and dropped, iteration 2 is queued and dropped
 abbrev trapping : List Item
-trapping = Compute Header ∷ Iteration Fails ∷ Iteration (Sets 0 (pos 5)) ∷ Iteration (Sets 0 (pos 6)) ∷ Closing ∷ []
+trapping = Compute Header ∷ Iteration Fails ∷ Iteration (Sets (pos 5)) ∷ Iteration (Sets (pos 6)) ∷ Closing ∷ []
 
 trapped : (s : State Body (List Item) Piece) × (from trapping (2 ∷ 2 ∷ 2 ∷ 0 ∷ 1 ∷ 2 ∷ 0 ∷ 1 ∷ 0 ∷ 2 ∷ 0 ∷ 1 ∷ []) ≡ Some s) × (is_finished machine s ≡ true) × (ending_of s ≡ TrappedAt (place_of_trap cause.Index line 0 false)) × (s.words ≡ pos 0 ∷ pos 0 ∷ [])
 trapped = (_, refl, refl, refl, refl)
@@ -165,7 +168,7 @@ mirrored j k = (j % 4 == k % 4) || (j % 4 + k % 4 == 3)
 abbrev eight : List Passed
 eight = Computes Ordinary [] ∷ Computes Ordinary [] ∷ Computes Header [] ∷ Iterates 0 [] ∷ Iterates 0 [] ∷ Iterates 0 [] ∷ Iterates 0 [] ∷ Closes [] ∷ Computes Ordinary [] ∷ Computes Header [] ∷ Iterates 0 [] ∷ Iterates 0 [] ∷ Iterates 0 [] ∷ Iterates 0 [] ∷ Closes [] ∷ Computes Ordinary [] ∷ Ends ∷ []
 
-eight_facts : facts_from (waits_of mirrored 2) no_facts eight ≡ record {
+eight_facts : facts_from (waits_of mirrored 2) 0 no_facts eight ≡ record {
   invocations = 2;
   iterations = 8;
   drains = 0;

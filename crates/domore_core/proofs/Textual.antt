@@ -7,7 +7,6 @@ use Rattle.nest_syntax.specs.declared.operators.Cause.{Cause}
 use Rattle.nest_syntax.specs.Reads.{Stopped}
 use Rattle.nest_syntax.specs.Outcome.{TrappedAt, place_of_trap}
 use Rattle.settle_law.specs.Trees.{Tree, turn}
-use Rattle.settle_law.specs.Cuts.{Cut}
 use Rattle.settle_law.specs.Traces.{Access, iteration, Each, settle, part, IsFinished, IsTrapped, Apart}
 use Rattle.settle_law.specs.Law.{after, Lawful}
 use Rattle.settle_law.specs.Courses.{Nest, family_of, iteration_at, reached, outcome}
@@ -28,12 +27,12 @@ all_finished_at width (suc n) k seats all lt = let both = and_parts (nat_lt n (d
     (λ ge. let same : k ≡ n = omega arith in subst (λ x. x < done_at seats (x % width)) (sym same) (ltb-true _ _ both.0))
     (cases_lt k n)
 
-module _ {B C P : Type 0} (m : Setup B C P) (nest : Nest) (tree : B → Cut) (start : C) (setup : IsSetupFor m nest tree start) (s : State B C P) (trace : List Access) (guards : Guarded m s trace) (words : WordsKept m.system.fixed nest.opening trace s.words) (parts : AllParts m nest tree s trace) (known : (k : ℕ) → k < s.next → IsSome (iteration_at nest k)) where
+module _ {B C P : Type 0} (m : Setup B C P) (nest : Nest) (what : B → ℕ × List ℤ) (start : C) (setup : IsSetupFor m nest what start) (s : State B C P) (trace : List Access) (guards : Guarded m s trace) (words : WordsKept m.system.fixed nest.opening trace s.words) (parts : AllParts m nest what s trace) (known : (k : ℕ) → k < s.next → IsSome (iteration_at nest k)) where
   abbrev pub family : ℕ → Tree
   family = family_of m.system.fixed nest
 
   keeps : NestKeepsFixed m.system.fixed nest
-  keeps = followed_keeps m.system nest tree m.entry m.event start setup.begins setup.follows
+  keeps = followed_keeps m.system nest what m.entry m.event start setup.begins setup.follows
 
   pub finished_at : (k : ℕ) → k < done_at s.seats (k % m.width) → IsFinished (family k) (part k trace)
   finished_at k lt = (parts.seats (k % m.width) (mod_below k m.width setup.some_worker)).finished k refl lt

@@ -26,10 +26,10 @@ pub record Facts : Type 0 where
 abbrev pub no_facts : Facts
 no_facts = record { invocations = 0; iterations = 0; drains = 0; waits = 0; crossing = 0; listed = []; first = 0 }
 
--- a header begins an invocation
-abbrev pub computed : Purpose → Facts → Facts
-computed Ordinary facts = facts
-computed Header facts = record facts { invocations = suc facts.invocations; first = facts.iterations }
+-- a header begins an invocation, whose first iteration is the next one
+abbrev pub computed : ℕ → Purpose → Facts → Facts
+computed next Ordinary facts = facts
+computed next Header facts = record facts { invocations = suc facts.invocations; first = next }
 
 abbrev pub drained : Facts → Facts
 drained facts = record facts { drains = suc facts.drains }
@@ -38,31 +38,36 @@ drained facts = record facts { drains = suc facts.drains }
 abbrev pub listed_at : ℕ → ℕ → Wait → Listed
 listed_at k first w = record { number = k; on = w.number; crossing = nat_lt w.number first }
 
--- the next iteration, with these waits
-abbrev pub iterated : List Wait → Facts → Facts
-iterated waits facts = let new = map (listed_at facts.iterations facts.first) waits in record facts {
+-- iteration k, with these waits
+abbrev pub iterated : ℕ → List Wait → Facts → Facts
+iterated k waits facts = let new = map (listed_at k facts.first) waits in record facts {
   iterations = suc facts.iterations;
   waits = facts.waits + length waits;
   crossing = facts.crossing + count_by (λ (l : Listed). l.crossing) new;
   listed = take 64 (facts.listed ++ new);
 }
 
--- what an event adds that is carried out without a trap
-abbrev pub counted : (ℕ → List Wait) → Facts → Event → Facts
-counted waits facts (Computes purpose scalars) = computed purpose facts
-counted waits facts (Drains purpose scalars) = computed purpose (drained facts)
-counted waits facts (Iterates body scalars) = iterated (waits facts.iterations) facts
-counted waits facts (Closes scalars) = facts
-counted waits facts Ends = facts
+-- what an event adds that is carried out without a trap, before iteration `next`
+abbrev pub counted : (ℕ → List Wait) → ℕ → Facts → Event → Facts
+counted waits next facts (Computes purpose scalars) = computed next purpose facts
+counted waits next facts (Drains purpose scalars) = computed next purpose (drained facts)
+counted waits next facts (Iterates body scalars) = iterated next (waits next) facts
+counted waits next facts (Closes scalars) = facts
+counted waits next facts Ends = facts
 
--- the facts of a list of events, each carried out without a trap
-abbrev pub facts_from : (ℕ → List Wait) → Facts → List Event → Facts
-facts_from waits facts [] = facts
-facts_from waits facts (event ∷ others) = facts_from waits (counted waits facts event) others
+-- the number of the next iteration behind an event
+abbrev pub next_behind : ℕ → Event → ℕ
+next_behind next (Iterates body scalars) = suc next
+next_behind next _ = next
+
+-- the facts of a list of events from iteration `next` on, each carried out without a trap
+abbrev pub facts_from : (ℕ → List Wait) → ℕ → Facts → List Event → Facts
+facts_from waits next facts [] = facts
+facts_from waits next facts (event ∷ others) = facts_from waits (next_behind next event) (counted waits next facts event) others
 
 -- the facts of a nest that doesn't trap: those of all its events
 abbrev pub facts_of : (ℕ → List Wait) → Nest → Facts
-facts_of waits nest = facts_from waits no_facts (events nest)
+facts_of waits nest = facts_from waits 0 no_facts (events nest)
 
 -- whether an event is the header of an invocation, and whether it is a drain
 abbrev pub begins : Purpose → Bool
@@ -103,4 +108,4 @@ pub record AreOf (waits_at : ℕ → List Wait) (passed : List Event) (facts : F
 
 -- The facts of a list of events are counts of it, and the first 64 of all waits.
 abbrev pub FactsCount : Type 0
-FactsCount = (waits : ℕ → List Wait) (passed : List Event) → AreOf waits passed (facts_from waits no_facts passed)
+FactsCount = (waits : ℕ → List Wait) (passed : List Event) → AreOf waits passed (facts_from waits 0 no_facts passed)

@@ -4,7 +4,7 @@ use Rattle.std.specs.List.{list_all}
 use Rattle.nest_syntax.specs.declared.place.Place.{Place}
 use Rattle.nest_syntax.specs.Outcome.{TrappedAt, Event as Passed}
 use Rattle.settle_law.specs.Trees.{Tree}
-use Rattle.settle_law.specs.Cuts.{Cut, plain, HoldsFixed}
+use Rattle.settle_law.specs.Cuts.{HoldsFixed}
 use Rattle.settle_law.specs.Traces.{Access, iteration, Replays, InOrder, settle, part, Fits, IsFinished, IsTrapped}
 use Rattle.settle_law.specs.Traces as traces
 use Rattle.settle_law.specs.Tasks.{Left}
@@ -121,17 +121,17 @@ HandParts m nest trace Idle = Unit {0}
 HandParts m nest trace (Holding k left piece) = Left m.system (family_of m.system.fixed nest k) (part k trace) piece
 HandParts m nest trace Gone = Unit {0}
 
-pub record SeatParts {B C P : Type 0} (m : Setup B C P) (nest : Nest) (tree : B → Cut) (trace : List Access) (u : ℕ) (seat : Seat B P) : Type 0 where
+pub record SeatParts {B C P : Type 0} (m : Setup B C P) (nest : Nest) (what : B → ℕ × List ℤ) (trace : List Access) (u : ℕ) (seat : Seat B P) : Type 0 where
   pub finished : (k : ℕ) → k % m.width ≡ u → k < seat.done → IsFinished (family_of m.system.fixed nest k) (part k trace)
   pub hand : HandParts m nest trace seat.hand
-  pub queue : Each (λ (t : Ticket B). (plain m.system.fixed (tree t.body) ≡ family_of m.system.fixed nest t.number) × (part t.number trace ≡ [])) seat.queue
+  pub queue : Each (λ (t : Ticket B). (iteration_at nest t.number ≡ Some (what t.body)) × (part t.number trace ≡ [])) seat.queue
 
 abbrev pub TrapParts : (ℕ → Tree) → List Access → Option Place → Type 0
 TrapParts family trace None = Unit {0}
 TrapParts family trace (Some trap) = trap.by_scheduler ≡ false → IsTrapped (family trap.number) (part trap.number trace) trap.cause trap.line
 
-pub record AllParts {B C P : Type 0} (m : Setup B C P) (nest : Nest) (tree : B → Cut) (s : State B C P) (trace : List Access) : Type 0 where
-  pub seats : (u : ℕ) → u < m.width → SeatParts m nest tree trace u (seat_at s.seats u)
+pub record AllParts {B C P : Type 0} (m : Setup B C P) (nest : Nest) (what : B → ℕ × List ℤ) (s : State B C P) (trace : List Access) : Type 0 where
+  pub seats : (u : ℕ) → u < m.width → SeatParts m nest what trace u (seat_at s.seats u)
   pub later : (k : ℕ) → s.next ≤ k → part k trace ≡ []
   pub fits : (k : ℕ) → Fits (family_of m.system.fixed nest k) (part k trace)
   pub trapped : TrapParts (family_of m.system.fixed nest) trace s.trap
@@ -145,10 +145,10 @@ pub record WordsKept (fixed : ℕ → Option ℤ) (from : List ℤ) (trace : Lis
 
 -- The course: while no trap is kept, some events are passed, the cursor stands behind them, and what is counted are their
 -- facts.
-pub record Going {B C P : Type 0} (m : Setup B C P) (nest : Nest) (tree : B → Cut) (s : State B C P) : Type 0 where
+pub record Going {B C P : Type 0} (m : Setup B C P) (nest : Nest) (what : B → ℕ × List ℤ) (s : State B C P) : Type 0 where
   pub passed : List Passed
-  pub behind : Behind nest tree m.event passed s.next s.cursor
-  pub counted : s.facts ≡ facts_from (waits m) no_facts passed
+  pub behind : Behind nest what m.event passed s.next s.cursor
+  pub counted : s.facts ≡ facts_from (waits m) 0 no_facts passed
 
 -- A kept trap of the scheduler stands behind all iterations that were handed out, and is the outcome if textual order
 -- gets there.
@@ -161,8 +161,8 @@ abbrev pub LateTrap : ℕ → Option Place → Type 0
 LateTrap next None = Unit {0}
 LateTrap next (Some trap) = trap.by_scheduler ≡ false → trap.number < next
 
-pub record CourseKept {B C P : Type 0} (m : Setup B C P) (nest : Nest) (tree : B → Cut) (s : State B C P) : Type 0 where
-  pub going : s.trap ≡ None → Going m nest tree s
+pub record CourseKept {B C P : Type 0} (m : Setup B C P) (nest : Nest) (what : B → ℕ × List ℤ) (s : State B C P) : Type 0 where
+  pub going : s.trap ≡ None → Going m nest what s
   pub known : (k : ℕ) → k < s.next → IsSome (iteration_at nest k)
   pub early : EarlyTrap nest s.next s.trap
   pub late : LateTrap s.next s.trap
@@ -172,15 +172,15 @@ pub record CourseKept {B C P : Type 0} (m : Setup B C P) (nest : Nest) (tree : B
 abbrev pub AllGone : {B C P : Type 0} → Setup B C P → State B C P → Type 0
 AllGone m s = (u : ℕ) → u < m.width → (seat_at s.seats u).hand ≡ Gone → ((seat_at s.seats u).queue ≡ []) × (s.halted ≡ true)
 
-pub record Invariant {B C P : Type 0} (m : Setup B C P) (nest : Nest) (tree : B → Cut) (s : State B C P) (trace : List Access) : Type 0 where
+pub record Invariant {B C P : Type 0} (m : Setup B C P) (nest : Nest) (what : B → ℕ × List ℤ) (s : State B C P) (trace : List Access) : Type 0 where
   pub tickets : AllTickets m s
   pub waits_left : AllWaits m s
   pub guarded : Guarded m s trace
-  pub parts : AllParts m nest tree s trace
+  pub parts : AllParts m nest what s trace
   pub words : WordsKept m.system.fixed nest.opening trace s.words
-  pub course : CourseKept m nest tree s
+  pub course : CourseKept m nest what s
   pub gone : AllGone m s
 
 -- Each legal history leaves a state with the invariant.
 abbrev pub HistoriesKeepInvariant : Type 0 → Type 0 → Type 0 → Type 0
-HistoriesKeepInvariant B C P = (m : Setup B C P) (nest : Nest) (tree : B → Cut) (start : C) → IsSetupFor m nest tree start → (history : List ℕ) (s : State B C P) → Leads m nest start history s → Invariant m nest tree s (trace_from m (opening m start nest.opening) history)
+HistoriesKeepInvariant B C P = (m : Setup B C P) (nest : Nest) (what : B → ℕ × List ℤ) (start : C) → IsSetupFor m nest what start → (history : List ℕ) (s : State B C P) → Leads m nest start history s → Invariant m nest what s (trace_from m (opening m start nest.opening) history)

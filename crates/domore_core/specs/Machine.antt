@@ -202,7 +202,7 @@ module _ {B C P : Type 0} (m : Setup B C P) where
   -- An event of the scheduler that traps is kept, with the number of iterations before it, and the cursor stays. Else
   -- the cursor goes past it.
   abbrev pub scalar_after : State B C P → Purpose → Option Trap → C → State B C P
-  scalar_after s purpose None rest = record s { cursor = rest; facts = computed purpose s.facts }
+  scalar_after s purpose None rest = record s { cursor = rest; facts = computed s.next purpose s.facts }
   scalar_after s purpose (Some trap) rest = record s { trap = Some (place_of_trap trap.cause trap.line s.next true) }
 
   abbrev pub state_after : State B C P → ℕ → Move B C P → State B C P
@@ -213,7 +213,7 @@ module _ {B C P : Type 0} (m : Setup B C P) where
     cursor = rest;
     next = suc s.next;
     seats = slice_set s.seats (s.next % m.width) (seat_with (seat_at s.seats (s.next % m.width)) (ticket_of s b));
-    facts = iterated (waits s.next) s.facts;
+    facts = iterated s.next (waits s.next) s.facts;
   }
   state_after s u DoHalt = record s { halted = true }
   state_after s u move = worker_after s u move

@@ -4,7 +4,6 @@ use Rattle.std.specs.Prelude.{◌≡◌, ℕ, zero, suc, ◌+◌, ◌<◌, ◌�
 use Rattle.std.specs.Option.{option_map_or}
 use Rattle.nest_syntax.specs.declared.place.Place.{Place}
 use Rattle.nest_syntax.specs.Outcome.{iterations_among}
-use Rattle.settle_law.specs.Cuts.{Cut}
 use Rattle.settle_law.specs.Courses.{Nest, Trap, Event, End, Scalar, Drain, Iterate, Close, events, reached}
 use Rattle.domore_core.specs.Waits.{Wait}
 use Rattle.domore_core.specs.Machine.{Setup, State, Seat, Hand, Idle, Holding, Gone, Ticket, opening, step, waits}
@@ -83,12 +82,12 @@ bound nest width cost = length (events nest) + width + 1 + sum_below (length (it
 
 -- The measure falls at each step of a legal history.
 abbrev pub StepsFall : Type 0 → Type 0 → Type 0 → Type 0
-StepsFall B C P = (m : Setup B C P) (nest : Nest) (tree : B → Cut) (start : C) → IsSetupFor m nest tree start → (history : List ℕ) (s t : State B C P) (actor : ℕ) → Leads m nest start history s → step m s actor ≡ Some t → measure m nest t < measure m nest s
+StepsFall B C P = (m : Setup B C P) (nest : Nest) (what : B → ℕ × List ℤ) (start : C) → IsSetupFor m nest what start → (history : List ℕ) (s t : State B C P) (actor : ℕ) → Leads m nest start history s → step m s actor ≡ Some t → measure m nest t < measure m nest s
 
 -- So no legal history is longer than the measure of the opening.
 abbrev pub HistoriesAreBounded : Type 0 → Type 0 → Type 0 → Type 0
-HistoriesAreBounded B C P = (m : Setup B C P) (nest : Nest) (tree : B → Cut) (start : C) → IsSetupFor m nest tree start → (history : List ℕ) (s : State B C P) → Leads m nest start history s → length history ≤ measure m nest (opening m start nest.opening)
+HistoriesAreBounded B C P = (m : Setup B C P) (nest : Nest) (what : B → ℕ × List ℤ) (start : C) → IsSetupFor m nest what start → (history : List ℕ) (s : State B C P) → Leads m nest start history s → length history ≤ measure m nest (opening m start nest.opening)
 
 -- Where the costs bound the fuel of all iterations, that measure is within the bound.
 abbrev pub OpeningIsWithinBound : Type 0 → Type 0 → Type 0 → Type 0
-OpeningIsWithinBound B C P = (m : Setup B C P) (nest : Nest) (tree : B → Cut) (start : C) (cost : ℕ → ℕ) → IsSetupFor m nest tree start → Costs m nest (length (events nest)) cost start 0 → measure m nest (opening m start nest.opening) ≤ bound nest m.width cost
+OpeningIsWithinBound B C P = (m : Setup B C P) (nest : Nest) (what : B → ℕ × List ℤ) (start : C) (cost : ℕ → ℕ) → IsSetupFor m nest what start → Costs m nest (length (events nest)) cost start 0 → measure m nest (opening m start nest.opening) ≤ bound nest m.width cost

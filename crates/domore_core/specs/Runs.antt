@@ -1,22 +1,10 @@
--- Runs: a history is a list of actors, each of whom makes one step.
-use Rattle.std.specs.Prelude.{◌≡◌, ℕ, Bool, true, ◌&&◌, Option, Some, List, [], ◌∷◌, ◌++◌}
-use Rattle.std.specs.Option.{option_map_or, option_and_then}
+-- The accesses that the steps of a history make, and how a machine ends.
+use Rattle.std.specs.Prelude.{ℕ, Bool, ◌&&◌, List, [], ◌∷◌, ◌++◌}
+use Rattle.std.specs.Option.{option_map_or}
 use Rattle.std.specs.List.{list_all}
 use Rattle.nest_syntax.specs.Outcome.{Ending, Done, TrappedAt}
 use Rattle.settle_law.specs.Traces.{Access}
 use Rattle.domore_core.specs.Machine.{Setup, State, Seat, step, move_of, accesses_of, is_gone}
-
--- The state behind all steps of a history, in order; none where one of them isn't enabled. A history is legal from a
--- state where this is some state.
-abbrev pub run : {S : Type 0} → (S → ℕ → Option S) → S → List ℕ → Option S
-run step s [] = Some s
-run step s (actor ∷ history) = option_and_then (λ t. run step t history) (step s actor)
-
--- a history is complete from a state where it is legal and ends in a finished state
-pub record IsComplete {S : Type 0} (step : S → ℕ → Option S) (is_finished : S → Bool) (s : S) (history : List ℕ) : Type 0 where
-  pub last : S
-  pub ran : run step s history ≡ Some last
-  pub finished : is_finished last ≡ true
 
 module _ {B C P : Type 0} (m : Setup B C P) where
   -- the accesses to written arrays that the steps of a history make, oldest first

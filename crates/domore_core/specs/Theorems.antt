@@ -1,22 +1,23 @@
 -- What is claimed of every history, whatever the order of the actors in it.
 use Rattle.std.specs.Prelude.{◌≡◌, ◌↔◌, ℕ, ◌+◌, ◌<◌, ◌≤◌, ℤ, true, false, Some, None, IsSome, List}
 use Rattle.nest_syntax.specs.Outcome.{Done}
-use Rattle.settle_law.specs.Cuts.{Cut, HoldsFixed}
+use Rattle.settle_law.specs.Cuts.{HoldsFixed}
 use Rattle.settle_law.specs.Traces.{Access, Replays, InOrder, settle, Apart}
-use Rattle.settle_law.specs.Tasks.{Realises}
-use Rattle.settle_law.specs.Courses.{Nest, Follows, family_of, outcome}
+use Rattle.settle_law.specs.Runs.{run, IsComplete}
+use Rattle.settle_law.specs.Courses.{Nest, Iterate, Follows, family_of, iteration_at, outcome}
+use Rattle.settle_law.specs.Reading.{BodiesBegin}
 use Rattle.domore_core.specs.Facts.{facts_of}
 use Rattle.domore_core.specs.Machine.{Setup, State, opening, step, waits, ended_actor}
-use Rattle.domore_core.specs.Runs.{run, IsComplete, trace_from, is_finished, ending_of}
+use Rattle.domore_core.specs.Runs.{trace_from, is_finished, ending_of}
 
--- A setup is for a nest where there is a worker and room in its queue; the first piece of each body realises the body's
--- cut turn; the cursor follows the course of the nest; `const` words have their values as the nest opens; and iterations
--- whose claims don't clash are apart.
-pub record IsSetupFor {B C P : Type 0} (m : Setup B C P) (nest : Nest) (tree : B → Cut) (start : C) : Type 0 where
+-- A setup is for a nest where there is a worker and room in its queue; the first piece of each body that is handed out
+-- realises the body's cut turn; the cursor follows the course of the nest; `const` words have their values as the nest
+-- opens; and iterations whose claims don't clash are apart.
+pub record IsSetupFor {B C P : Type 0} (m : Setup B C P) (nest : Nest) (what : B → ℕ × List ℤ) (start : C) : Type 0 where
   pub some_worker : 0 < m.width
   pub some_room : 0 < m.room
-  pub begins : (b : B) → Realises m.system (tree b) (m.entry b)
-  pub follows : Follows nest tree m.event start nest.course
+  pub begins : BodiesBegin m.system nest what m.entry
+  pub follows : Follows nest what m.event start nest.course
   pub opens_fixed : HoldsFixed m.system.fixed nest.opening
   pub apart : (j k : ℕ) → j < k → m.clashes j k ≡ false → Apart (family_of m.system.fixed nest j) (family_of m.system.fixed nest k)
 
@@ -36,15 +37,19 @@ pub record KeepsOrder (from : List ℤ) (trace : List Access) (words : List ℤ)
 
 -- Each legal history leaves a trace that keeps order, to the words of the state.
 abbrev pub HistoriesKeepOrder : Type 0 → Type 0 → Type 0 → Type 0
-HistoriesKeepOrder B C P = (m : Setup B C P) (nest : Nest) (tree : B → Cut) (start : C) → IsSetupFor m nest tree start → (history : List ℕ) (s : State B C P) → Leads m nest start history s → KeepsOrder nest.opening (trace_from m (opening m start nest.opening) history) s.words
+HistoriesKeepOrder B C P = (m : Setup B C P) (nest : Nest) (what : B → ℕ × List ℤ) (start : C) → IsSetupFor m nest what start → (history : List ℕ) (s : State B C P) → Leads m nest start history s → KeepsOrder nest.opening (trace_from m (opening m start nest.opening) history) s.words
 
 -- Each complete history ends as the nest does in textual order: with its final words, or at its first trap.
 abbrev pub HistoriesEndAsNest : Type 0 → Type 0 → Type 0 → Type 0
-HistoriesEndAsNest B C P = (m : Setup B C P) (nest : Nest) (tree : B → Cut) (start : C) → IsSetupFor m nest tree start → (history : List ℕ) (complete : Completes m nest start history) → ending_of complete.last ≡ outcome nest
+HistoriesEndAsNest B C P = (m : Setup B C P) (nest : Nest) (what : B → ℕ × List ℤ) (start : C) → IsSetupFor m nest what start → (history : List ℕ) (complete : Completes m nest start history) → ending_of complete.last ≡ outcome nest
 
 -- Where the nest doesn't trap, each complete history counts the same.
 abbrev pub FactsAreOfNest : Type 0 → Type 0 → Type 0 → Type 0
-FactsAreOfNest B C P = (m : Setup B C P) (nest : Nest) (tree : B → Cut) (start : C) → IsSetupFor m nest tree start → (history : List ℕ) (complete : Completes m nest start history) (words : List ℤ) → outcome nest ≡ Done words → complete.last.facts ≡ facts_of (waits m) nest
+FactsAreOfNest B C P = (m : Setup B C P) (nest : Nest) (what : B → ℕ × List ℤ) (start : C) → IsSetupFor m nest what start → (history : List ℕ) (complete : Completes m nest start history) (words : List ℤ) → outcome nest ≡ Done words → complete.last.facts ≡ facts_of (waits m) nest
+
+-- What is handed out is the nest's next iteration: its body, with its scalars. So its claims are those of that number.
+abbrev pub HandedOutIsNext : Type 0 → Type 0 → Type 0 → Type 0
+HandedOutIsNext B C P = (m : Setup B C P) (nest : Nest) (what : B → ℕ × List ℤ) (start : C) → IsSetupFor m nest what start → (history : List ℕ) (s : State B C P) → Leads m nest start history s → (b : B) (rest : C) → s.trap ≡ None → m.event s.cursor ≡ Iterate b rest → iteration_at nest s.next ≡ Some (what b)
 
 -- some worker or the scheduler has a step
 pub record CanGoOn {B C P : Type 0} (m : Setup B C P) (s : State B C P) : Type 0 where
@@ -54,7 +59,7 @@ pub record CanGoOn {B C P : Type 0} (m : Setup B C P) (s : State B C P) : Type 0
 
 -- In each state that a legal history leaves and that isn't finished, some actor has a step.
 abbrev pub UnfinishedGoOn : Type 0 → Type 0 → Type 0 → Type 0
-UnfinishedGoOn B C P = (m : Setup B C P) (nest : Nest) (tree : B → Cut) (start : C) → IsSetupFor m nest tree start → (history : List ℕ) (s : State B C P) → Leads m nest start history s → is_finished m s ≡ false → CanGoOn m s
+UnfinishedGoOn B C P = (m : Setup B C P) (nest : Nest) (what : B → ℕ × List ℤ) (start : C) → IsSetupFor m nest what start → (history : List ℕ) (s : State B C P) → Leads m nest start history s → is_finished m s ≡ false → CanGoOn m s
 
 -- An actor whose part is ended has no step.
 abbrev pub EndedHaveNoStep : Type 0 → Type 0 → Type 0 → Type 0
@@ -62,8 +67,8 @@ EndedHaveNoStep B C P = (m : Setup B C P) (s : State B C P) (actor : ℕ) → en
 
 -- Its part stays ended, whoever makes a step.
 abbrev pub EndedStay : Type 0 → Type 0 → Type 0 → Type 0
-EndedStay B C P = (m : Setup B C P) (nest : Nest) (tree : B → Cut) (start : C) → IsSetupFor m nest tree start → (history : List ℕ) (s t : State B C P) (actor other : ℕ) → Leads m nest start history s → ended_actor m s actor ≡ true → step m s other ≡ Some t → ended_actor m t actor ≡ true
+EndedStay B C P = (m : Setup B C P) (nest : Nest) (what : B → ℕ × List ℤ) (start : C) → IsSetupFor m nest what start → (history : List ℕ) (s t : State B C P) (actor other : ℕ) → Leads m nest start history s → ended_actor m s actor ≡ true → step m s other ≡ Some t → ended_actor m t actor ≡ true
 
 -- The machine is finished exactly where the parts of all actors are ended: the workers, the scheduler and one more.
 abbrev pub FinishedIsAllEnded : Type 0 → Type 0 → Type 0 → Type 0
-FinishedIsAllEnded B C P = (m : Setup B C P) (nest : Nest) (tree : B → Cut) (start : C) → IsSetupFor m nest tree start → (history : List ℕ) (s : State B C P) → Leads m nest start history s → (is_finished m s ≡ true) ↔ ((actor : ℕ) → actor < m.width + 2 → ended_actor m s actor ≡ true)
+FinishedIsAllEnded B C P = (m : Setup B C P) (nest : Nest) (what : B → ℕ × List ℤ) (start : C) → IsSetupFor m nest what start → (history : List ℕ) (s : State B C P) → Leads m nest start history s → (is_finished m s ≡ true) ↔ ((actor : ℕ) → actor < m.width + 2 → ended_actor m s actor ≡ true)

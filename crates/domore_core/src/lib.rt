@@ -5,7 +5,7 @@
 //! `specs/` has the machine as a definition, for any bodies, cursors and pieces of work, and what is claimed of it.
 #![tactic(auto)]
 
-ghost use Rattle.domore_core.specs.Theorems.{HistoriesKeepOrder, HistoriesEndAsNest, FactsAreOfNest, UnfinishedGoOn, EndedHaveNoStep, EndedStay, FinishedIsAllEnded};
+ghost use Rattle.domore_core.specs.Theorems.{HistoriesKeepOrder, HistoriesEndAsNest, FactsAreOfNest, HandedOutIsNext, UnfinishedGoOn, EndedHaveNoStep, EndedStay, FinishedIsAllEnded};
 ghost use Rattle.domore_core.specs.Waits.{NeedsAreGreatest};
 ghost use Rattle.domore_core.specs.Facts.{FactsCount};
 ghost use Rattle.domore_core.specs.Invariant.{HistoriesKeepInvariant, FinishedWhereFree};
@@ -40,6 +40,11 @@ pub fn histories_end_as_nest<B, C, P>()
 /// Where the nest doesn't trap, the facts of each complete history are those of the nest.
 pub fn facts_are_of_nest<B, C, P>()
     ensures { FactsAreOfNest B C P }
+{}
+
+/// What the scheduler hands out is the nest's next iteration.
+pub fn handed_out_is_next<B, C, P>()
+    ensures { HandedOutIsNext B C P }
 {}
 
 /// The facts of a list of events are counts of it, and the first 64 of the waits of its iterations.

@@ -64,12 +64,12 @@ listed_more xs waits x count = ⊎_elim room full (cases_lt waits 64)
         set-past (places_of xs) waits (placed x) (omega (arith, length-places xs (omega arith)))
         ∙ ap places_of (sym (take_at xs (x ∷ []) 64 all))
 
-module _ (report : Report) (first : ℕ) (w : Wait) (kept : IsTallied report (tallied report first)) where
+module _ (report : Report) (first number : ℕ) (w : Wait) (kept : IsTallied report (tallied report first)) where
   abbrev xs : List Listed
   xs = listed_in report.first_waits
 
   abbrev one : Listed
-  one = listed_at report.iterations first w
+  one = listed_at number first w
 
   abbrev pub after : Report
   after = record report { waits = report.waits + 1; crossing = report.crossing + (if nat_lt w.number first then 1 else 0); first_waits = set report.first_waits report.waits (placed one) }
@@ -87,7 +87,7 @@ module _ (report : Report) (first : ℕ) (w : Wait) (kept : IsTallied report (ta
     count = ap length listed-after ∙ length-take 64 (xs ++ one ∷ []) ∙ (let longer : length (xs ++ one ∷ []) ≡ length xs + 1 = length-append xs (one ∷ []) in let n : length xs ≡ min report.waits 64 = kept.count in let e : min 64 (length (xs ++ one ∷ [])) ≡ min (report.waits + 1) 64 = omega arith in e);
   }
 
-  pub note_is : tallied after first ≡ record (tallied report first) { facts = with_wait (tallied report first).facts w }
+  pub note_is : tallied after first ≡ record (tallied report first) { facts = with_wait number (tallied report first).facts w }
   note_is =
       let more : report.waits + 1 ≡ suc report.waits = omega arith in
       ap (λ (n : ℕ). let t : Tallied = record (tallied after first) { facts = record (tallied after first).facts { waits = n } } in t) more
@@ -101,35 +101,35 @@ take-first (suc n) (x ∷ front) back = ap (λ zs. x ∷ zs) (take-first n front
 abbrev pub handed : Facts → Facts
 handed facts = record facts { iterations = suc facts.iterations }
 
-more_waits : (facts : Facts) (w : Wait) (waits : List Wait) → iterated waits (with_wait facts w) ≡ iterated (w ∷ waits) facts
-more_waits facts w waits =
-    let l = listed_at facts.iterations facts.first w in
-    let ls = map (listed_at facts.iterations facts.first) waits in
+more_waits : (number : ℕ) (facts : Facts) (w : Wait) (waits : List Wait) → iterated number waits (with_wait number facts w) ≡ iterated number (w ∷ waits) facts
+more_waits number facts w waits =
+    let l = listed_at number facts.first w in
+    let ls = map (listed_at number facts.first) waits in
     let counts : suc facts.waits + length waits ≡ facts.waits + suc (length waits) = omega arith in
     let crosses : facts.crossing + (if nat_lt w.number facts.first then 1 else 0) + count_by (λ (x : Listed). x.crossing) ls ≡ facts.crossing + count_by (λ (x : Listed). x.crossing) (l ∷ ls) =
     omega (arith, sum_by-cons (λ (x : Listed). if x.crossing then 1 else 0) l ls) in
     let lists : take 64 (take 64 (facts.listed ++ l ∷ []) ++ ls) ≡ take 64 (facts.listed ++ l ∷ ls) = take-first 64 (facts.listed ++ l ∷ []) ls ∙ ap (take 64) (append_assoc facts.listed (l ∷ []) ls) in
-    ap (λ (n : ℕ). let f : Facts = record (iterated waits (with_wait facts w)) { waits = n } in f) counts
-    ∙ ap (λ (n : ℕ). let f : Facts = record (iterated waits (with_wait facts w)) { waits = facts.waits + suc (length waits); crossing = n } in f) crosses
-    ∙ ap (λ (k : List Listed). let f : Facts = record (iterated (w ∷ waits) facts) { listed = k } in f) lists
+    ap (λ (n : ℕ). let f : Facts = record (iterated number waits (with_wait number facts w)) { waits = n } in f) counts
+    ∙ ap (λ (n : ℕ). let f : Facts = record (iterated number waits (with_wait number facts w)) { waits = facts.waits + suc (length waits); crossing = n } in f) crosses
+    ∙ ap (λ (k : List Listed). let f : Facts = record (iterated number (w ∷ waits) facts) { listed = k } in f) lists
 
-with_waits-is : (waits : List Wait) (facts : Facts) → length (with_waits facts waits).listed ≤ 64 → handed (with_waits facts waits) ≡ iterated waits facts
-with_waits-is [] facts few =
+with_waits-is : (number : ℕ) (waits : List Wait) (facts : Facts) → length (with_waits number facts waits).listed ≤ 64 → handed (with_waits number facts waits) ≡ iterated number waits facts
+with_waits-is number [] facts few =
     let counts : facts.waits ≡ facts.waits + 0 = omega arith in
     let crosses : facts.crossing ≡ facts.crossing + 0 = omega arith in
     let lists : facts.listed ≡ take 64 (facts.listed ++ []) = sym (ap (take 64) (append-nil facts.listed) ∙ take_all 64 facts.listed few) in
     ap (λ (n : ℕ). let f : Facts = record (handed facts) { waits = n } in f) counts
     ∙ ap (λ (n : ℕ). let f : Facts = record (handed facts) { waits = facts.waits + 0; crossing = n } in f) crosses
     ∙ ap (λ (k : List Listed). let f : Facts = record (handed facts) { waits = facts.waits + 0; crossing = facts.crossing + 0; listed = k } in f) lists
-with_waits-is (w ∷ waits) facts few = with_waits-is waits (with_wait facts w) few ∙ more_waits facts w waits
+with_waits-is number (w ∷ waits) facts few = with_waits-is number waits (with_wait number facts w) few ∙ more_waits number facts w waits
 
 -- all waits are listed, and the iteration is counted
-pub handed_out : (report : Report) (first : ℕ) (old : Tallied) (waits left : List Wait) → IsTallied report (tallied report first) → left ≡ [] → (tallied report first).options ≡ old.options → with_waits (tallied report first).facts left ≡ with_waits old.facts waits
-    → (let t : Tallied = record { options = (tallied report first).options; facts = handed (tallied report first).facts } in t) ≡ record old { facts = iterated waits old.facts }
-handed_out report first old waits left kept none options same =
-    let done : (tallied report first).facts ≡ with_waits old.facts waits = ap (with_waits (tallied report first).facts) (sym none) ∙ same in
+pub handed_out : (report : Report) (first number : ℕ) (old : Tallied) (waits left : List Wait) → IsTallied report (tallied report first) → left ≡ [] → (tallied report first).options ≡ old.options → with_waits number (tallied report first).facts left ≡ with_waits number old.facts waits
+    → (let t : Tallied = record { options = (tallied report first).options; facts = handed (tallied report first).facts } in t) ≡ record old { facts = iterated number waits old.facts }
+handed_out report first number old waits left kept none options same =
+    let done : (tallied report first).facts ≡ with_waits number old.facts waits = ap (with_waits number (tallied report first).facts) (sym none) ∙ same in
     let few : length (tallied report first).facts.listed ≤ 64 = omega (arith, kept.count) in
-    let fits : length (with_waits old.facts waits).listed ≤ 64 = subst (λ (f : Facts). length f.listed ≤ 64) done few in
+    let fits : length (with_waits number old.facts waits).listed ≤ 64 = subst (λ (f : Facts). length f.listed ≤ 64) done few in
     ap (λ (o : Options). let t : Tallied = record { options = o; facts = handed (tallied report first).facts } in t) options
     ∙ ap (λ (f : Facts). let t : Tallied = record { options = old.options; facts = handed f } in t) done
-    ∙ ap (λ (f : Facts). let t : Tallied = record { options = old.options; facts = f } in t) (with_waits-is waits old.facts fits)
+    ∙ ap (λ (f : Facts). let t : Tallied = record { options = old.options; facts = f } in t) (with_waits-is number waits old.facts fits)

@@ -8,9 +8,9 @@ use Rattle.progress_board.specs.declared.options.Options.{Options}
 use Rattle.progress_board.specs.declared.actors.Ask.TheVariants.{Ended}
 use Rattle.progress_board.specs.Options.{IsInRange}
 use Rattle.progress_board.specs.Actors.{actors_of, is_ready, SomeEnabled, AllEnded}
-use Rattle.progress_board.specs.Runs.{run, IsReached}
+use Rattle.settle_law.specs.Runs.{run}
+use Rattle.progress_board.specs.Runs.{IsReached, IsLegal}
 use Rattle.domore_core.specs.Machine as machine
-use Rattle.domore_core.specs.Runs as runs
 use Rattle.domore_core.specs.Theorems.{IsSetupFor, Leads}
 use Rattle.domore_core.proofs.Falls as falling
 use Rattle.domore_core.proofs.Progress.{goes_on}
@@ -18,11 +18,15 @@ use Rattle.domore_core.proofs.Ended as ended
 use Rattle.first_tasks.specs.declared.position.Iteration.{Iteration}
 use Rattle.first_tasks.specs.declared.position.Position.{Position}
 use Rattle.first_tasks.specs.declared.position.Position.TheVariants.{Region}
-use Rattle.first_tasks.specs.Iterations.{cut_turn}
+use Rattle.first_tasks.specs.Iterations.{what_in}
 use Rattle.first_tasks.specs.Pieces.{Piece}
 use Rattle.first_tasks.proofs.Forms.{form_of}
 use Rattle.first_tasks.proofs.Setups.{right}
 use Rattle.domore_engine.specs.Engine.{Engine, Table, Row_data, setup_of, setup_in, nest_in, program_in, opening, move_of, step, has_ended, answer, asked, is_finished, measure}
+
+-- a legal state of the engine
+abbrev pub IsLegalEngine : Engine → Type 0
+IsLegalEngine = IsLegal (λ (e : Engine). e.job) (λ (e : Engine). e.options) opening step
 
 -- a step changes the state alone, as the abstract machine does
 pub record IsStepped (e : Engine) (actor : ℕ) (f : Engine) : Type 0 where
@@ -46,7 +50,7 @@ keeps_options e f actor is = ap (λ (g : Engine). g.options) (stepped e f actor 
 -- a legal history of the engine is one of the abstract machine
 pub record IsLed (e : Engine) (history : List ℕ) (f : Engine) : Type 0 where
   pub state : Table
-  pub leads : runs.run (machine.step (setup_in e)) e.state history ≡ Some state
+  pub leads : run (machine.step (setup_in e)) e.state history ≡ Some state
   pub new : f ≡ record e { state = state }
 
 pub led : (history : List ℕ) (e f : Engine) → run step e history ≡ Some f → IsLed e history f
@@ -58,9 +62,11 @@ led (actor ∷ history) e f is = go (machine.step (setup_in e) e.state actor) re
     go None known made later = absurd (let no : None ≡ Some f = made in cc)
     go (Some s) known made later =
         let rest = later s made in
-        record { state = rest.state; leads = ap (λ (o : Option Table). option_and_then (λ (t : Table). runs.run (machine.step (setup_in e)) t history) o) known ∙ rest.leads; new = rest.new }
+        record { state = rest.state; leads = ap (λ (o : Option Table). option_and_then (λ (t : Table). run (machine.step (setup_in e)) t history) o) known ∙ rest.leads; new = rest.new }
 
-setup_right : (job : Nest) (options : Options) → IsInRange options → IsSetupFor (setup_of job options) (nest_in job) (cut_turn (program_in job)) Region
+-- The setup of a job is right. A legal state doesn't say of its program that it is of the first form, so each program
+-- counts as one here.
+pub setup_right : (job : Nest) (options : Options) → IsInRange options → IsSetupFor (setup_of job options) (nest_in job) (what_in (program_in job)) Region
 setup_right job options allowed = right (program_in job) (form_of job.program) job.opening.words options.workers options.queue (omega (arith, allowed.some_worker)) (omega (arith, allowed.some_room))
 
 -- the history that leads to a state, in the abstract machine
@@ -104,36 +110,36 @@ is_ended : (e : Engine) (actor : ℕ) → has_ended e actor ≡ true → asked e
 is_ended e actor over =
     ap (λ o. answer (has_ended e actor) o) (no_move e actor (move_of e actor) (ended.no_step Iteration Position Piece (setup_in e) e.state actor over)) ∙ ap (λ b. answer b None) over
 
-pub stays : (e f : Engine) (actor other : ℕ) → IsInRange e.options → IsReached step (opening e.job e.options) e → asked e actor ≡ Ended → step e other ≡ Some f → asked f actor ≡ Ended
-stays e f actor other allowed reached over is =
+pub stays : (e f : Engine) (actor other : ℕ) → IsLegalEngine e → asked e actor ≡ Ended → step e other ≡ Some f → asked f actor ≡ Ended
+stays e f actor other legal over is =
     let way = stepped e f other is in
-    let past = behind e reached in
+    let past = behind e legal.reached in
     subst (λ (g : Engine). asked g actor ≡ Ended) (sym way.new)
     (is_ended (record e { state = way.state }) actor
-    (ended.stay Iteration Position Piece (setup_in e) (nest_in e.job) (cut_turn (program_in e.job)) Region (setup_right e.job e.options allowed) past.history e.state way.state actor other past.leads (ended_is (has_ended e actor) (move_of e actor) over) way.stepped))
+    (ended.stay Iteration Position Piece (setup_in e) (nest_in e.job) (what_in (program_in e.job)) Region (setup_right e.job e.options legal.allowed) past.history e.state way.state actor other past.leads (ended_is (has_ended e actor) (move_of e actor) over) way.stepped))
 
 -- the machine is finished exactly where all are ended
-pub finishes : (e : Engine) → IsInRange e.options → IsReached step (opening e.job e.options) e → (is_finished e ≡ true) ↔ AllEnded asked e (actors_of e.options)
-finishes e allowed reached =
-    let past = behind e reached in
-    let both = ended.finishes Iteration Position Piece (setup_in e) (nest_in e.job) (cut_turn (program_in e.job)) Region (setup_right e.job e.options allowed) past.history e.state past.leads in (
+pub finishes : (e : Engine) → IsLegalEngine e → (is_finished e ≡ true) ↔ AllEnded asked e (actors_of e.options)
+finishes e legal =
+    let past = behind e legal.reached in
+    let both = ended.finishes Iteration Position Piece (setup_in e) (nest_in e.job) (what_in (program_in e.job)) Region (setup_right e.job e.options legal.allowed) past.history e.state past.leads in (
       (λ over. λ actor below. is_ended e actor (both.0 over actor below)),
       (λ all. both.1 (λ actor below. ended_is (has_ended e actor) (move_of e actor) (all actor below))),
     )
 
 -- each step makes the measure smaller
-pub falls : (e f : Engine) (actor : ℕ) → IsInRange e.options → IsReached step (opening e.job e.options) e → step e actor ≡ Some f → measure f + 1 ≤ measure e
-falls e f actor allowed reached is =
+pub falls : (e f : Engine) (actor : ℕ) → IsLegalEngine e → step e actor ≡ Some f → measure f + 1 ≤ measure e
+falls e f actor legal is =
     let way = stepped e f actor is in
-    let past = behind e reached in
-    let less = falling.falls Iteration Position Piece (setup_in e) (nest_in e.job) (cut_turn (program_in e.job)) Region (setup_right e.job e.options allowed) past.history e.state way.state actor past.leads way.stepped in
+    let past = behind e legal.reached in
+    let less = falling.falls Iteration Position Piece (setup_in e) (nest_in e.job) (what_in (program_in e.job)) Region (setup_right e.job e.options legal.allowed) past.history e.state way.state actor past.leads way.stepped in
     subst (λ (g : Engine). measure g + 1 ≤ measure e) (sym way.new) (omega (arith, less))
 
 -- a machine that isn't finished has a step
-pub progress : (e : Engine) → IsInRange e.options → IsReached step (opening e.job e.options) e → is_finished e ≡ false → SomeEnabled step e (actors_of e.options)
-progress e allowed reached unfinished =
-    let past = behind e reached in
-    let can = goes_on Iteration Position Piece (setup_in e) (nest_in e.job) (cut_turn (program_in e.job)) Region (setup_right e.job e.options allowed) past.history e.state past.leads unfinished in
+pub progress : (e : Engine) → IsLegalEngine e → is_finished e ≡ false → SomeEnabled step e (actors_of e.options)
+progress e legal unfinished =
+    let past = behind e legal.reached in
+    let can = goes_on Iteration Position Piece (setup_in e) (nest_in e.job) (what_in (program_in e.job)) Region (setup_right e.job e.options legal.allowed) past.history e.state past.leads unfinished in
     record { actor = can.actor; below = omega (arith, can.present); enabled = some_of (machine.step (setup_in e) e.state can.actor) can.enabled }
   where
     some_of : (o : Option Table) → is_some o ≡ true → is_some (option_map (λ (s : Table). let g : Engine = record e { state = s } in g) o) ≡ true

@@ -7,3 +7,4 @@ pub mod Shadows
 pub mod Tables
 pub mod Kept
 pub mod Laws
+pub mod Theorems

@@ -28,14 +28,14 @@ pub record IsTallied (report : Report) (tally : Tallied) : Type 0 where
   pub is : report ≡ report_of tally.options tally.facts
   pub count : length tally.facts.listed ≡ min tally.facts.waits 64
 
--- the facts with one wait more, and with some
-abbrev pub with_wait : Facts → Wait → Facts
-with_wait facts w = record facts {
+-- the facts with one wait more of an iteration by its number, and with some
+abbrev pub with_wait : ℕ → Facts → Wait → Facts
+with_wait number facts w = record facts {
   waits = suc facts.waits;
   crossing = facts.crossing + (if nat_lt w.number facts.first then 1 else 0);
-  listed = take 64 (facts.listed ++ listed_at facts.iterations facts.first w ∷ []);
+  listed = take 64 (facts.listed ++ listed_at number facts.first w ∷ []);
 }
 
-abbrev pub with_waits : Facts → List Wait → Facts
-with_waits facts [] = facts
-with_waits facts (w ∷ waits) = with_waits (with_wait facts w) waits
+abbrev pub with_waits : ℕ → Facts → List Wait → Facts
+with_waits number facts [] = facts
+with_waits number facts (w ∷ waits) = with_waits number (with_wait number facts w) waits

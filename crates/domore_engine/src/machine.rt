@@ -9,7 +9,7 @@ use word_store::Words;
 
 impl Machine for Domore {
     ghost use Rattle.std.specs.Prelude.{refl};
-    ghost use Rattle.domore_engine.specs.Laws.{keeps_job, keeps_options, readies, actors, stays, finishes, falls};
+    ghost use Rattle.domore_engine.specs.Laws.{keeps_job, keeps_options, readies, actors, stays, finishes, progress, falls};
 
     ghost job_of = { λ m. m.job };
 
@@ -88,11 +88,13 @@ impl Machine for Domore {
 
     ghost actors = { λ m actor legal past. actors m actor past };
 
-    ghost stays = { λ m n actor other legal over e. stays m n actor other legal.allowed legal.reached over e };
+    ghost stays = { stays };
 
-    ghost finishes = { λ m legal. finishes m legal.allowed legal.reached };
+    ghost finishes = { finishes };
 
-    ghost falls = { λ m n actor legal e. falls m n actor legal.allowed legal.reached e };
+    ghost progress = { progress };
+
+    ghost falls = { falls };
 }
 
 fn row_given(given: Given) -> Row

@@ -45,7 +45,7 @@ impl Table {
         requires form { IsFirstForm program.now }
         requires sound { IsSound (first_form program.now) workers self.old }
         ensures computes { (purpose : Purpose) (rest : At) → event_at (first_of (first_form program.now)) self.old.cursor ≡ courses.Scalar purpose None rest
-            → state_of self.new ≡ record (state_of self.old) { cursor = rest; facts = computed purpose self.old.tally.facts } }
+            → state_of self.new ≡ record (state_of self.old) { cursor = rest; facts = computed self.old.next purpose self.old.tally.facts } }
         ensures closes { (rest : At) → event_at (first_of (first_form program.now)) self.old.cursor ≡ courses.Close rest
             → state_of self.new ≡ record (state_of self.old) { cursor = rest } }
         ensures sound { IsSound (first_form program.now) workers self.new }
@@ -62,7 +62,7 @@ impl Table {
                 };
             }
             Position::Invocation(turn) => {
-                self.tally.begin();
+                self.tally.begin(self.next);
                 self.cursor = Position::Inside { turn, iteration: 0 };
             }
             Position::Inside { turn, iteration } => {
@@ -94,7 +94,7 @@ impl Table {
         }
         let body = parts.iteration(turn, iteration);
         let waits = self.shadow.hand_out(program, body, self.next);
-        self.tally.hand_out(waits.as_slice());
+        self.tally.hand_out(self.next, waits.as_slice());
         let own = (self.next % workers as u64) as usize;
         self.seats[own].put(Ticket {
             number: self.next,

@@ -53,41 +53,41 @@ impl Tally {
         &self.report
     }
 
-    /// An invocation begins.
-    pub(crate) fn begin(&mut self)
+    /// An invocation begins, with iteration `next`.
+    pub(crate) fn begin(&mut self, next: u64)
         requires { self.old.facts.invocations < 2 ^ 63 }
-        ensures { self.new ≡ record self.old { facts = computed Header self.old.facts } }
+        ensures { self.new ≡ record self.old { facts = computed next Header self.old.facts } }
     {
         self.report.invocations += 1;
-        self.first = self.report.iterations;
+        self.first = next;
     }
 
-    /// An iteration is handed out with these waits.
-    pub(crate) fn hand_out(&mut self, waits: &[Wait])
+    /// The iteration with this number is handed out with these waits.
+    pub(crate) fn hand_out(&mut self, number: u64, waits: &[Wait])
         requires few { length waits.now ≤ 8 }
         requires iterations { self.old.facts.iterations < 2 ^ 60 }
         requires waits { self.old.facts.waits < 2 ^ 63 }
         requires crossing { self.old.facts.crossing < 2 ^ 63 }
-        ensures { self.new ≡ record self.old { facts = iterated waits.now self.old.facts } }
+        ensures { self.new ≡ record self.old { facts = iterated number waits.now self.old.facts } }
     {
         for wait in waits {
-            self.note(*wait);
+            self.note(number, *wait);
         }
         self.report.iterations += 1;
     }
 
-    // One wait more, of the iteration that is handed out.
-    fn note(&mut self, wait: Wait)
+    // One wait more of an iteration.
+    fn note(&mut self, number: u64, wait: Wait)
         requires waits { self.old.facts.waits < 2 ^ 63 + 8 }
         requires crossing { self.old.facts.crossing < 2 ^ 63 + 8 }
-        ensures { self.new ≡ record self.old { facts = with_wait self.old.facts wait } }
+        ensures { self.new ≡ record self.old { facts = with_wait number self.old.facts wait } }
     {
         let crossing = wait.number < self.first;
         list_at(
             &mut self.report.first_waits,
             self.report.waits,
             progress_board::Wait {
-                number: self.report.iterations,
+                number,
                 on: wait.number,
                 crossing,
             },

@@ -25,7 +25,7 @@ use Rattle.settle_law.specs.Courses.{Nest, nest_of, family_of, cut_at}
 use Rattle.settle_law.proofs.Claims.{apart-from_claims}
 use Rattle.settle_law.proofs.Turns.{plain_pausing}
 use Rattle.first_tasks.specs.Form.{first_of, count_of}
-use Rattle.first_tasks.specs.Iterations.{iteration_numbered, scalars_in, turn_at, cut_turn}
+use Rattle.first_tasks.specs.Iterations.{iteration_numbered, scalars_in, turn_at}
 use Rattle.first_tasks.specs.Claims.{claims_in, claims_numbered, collide, clash, clashes}
 use Rattle.first_tasks.proofs.Forms.{first-of_form}
 use Rattle.first_tasks.proofs.Numbers.{iteration-numbered, none_behind}
@@ -112,15 +112,12 @@ module _ (program : Program) (form : IsFirstForm program) (words : List ℤ) whe
       (hold program form (scalar_at scalars form.first.outer.name) (scalar_at scalars form.first.inner.name) scalars (record { of_outer = refl; of_inner = refl }) form.first.length (omega arith))
 
   family_held : (number : ℕ) → Within (claims_by (claims_word number)) (family_of (λ w. None) nest number)
-  unfolding cut_turn
   family_held number = ⊎_elim inside behind (cases_lt number (count_of first.outer * count_of first.inner))
     where
       inside : number < count_of first.outer * count_of first.inner → Within (claims_by (claims_word number)) (family_of (λ w. None) nest number)
       inside below =
-          let it = iteration-numbered program form words number below in
-          subst (λ (o : Option (ℕ × List ℤ)). Within (claims_by (claims_word number)) (option_map_or (λ (i : ℕ × List ℤ). plain (λ w. None) (cut_at nest i)) o tree.Finished)) (sym it.is)
-          (subst (λ c. Within (claims_by (claims_word number)) (plain (λ w. None) c)) it.same
-          (within_tree (sizes_of (arrays_of program.decls)) (claims_word number) (turn_at program (iteration_numbered first number)) 0 (turn_held number)))
+          subst (λ (o : Option (ℕ × List ℤ)). Within (claims_by (claims_word number)) (option_map_or (λ (i : ℕ × List ℤ). plain (λ w. None) (cut_at nest i)) o tree.Finished)) (sym (iteration-numbered program form words number below))
+          (within_tree (sizes_of (arrays_of program.decls)) (claims_word number) (turn_at program (iteration_numbered first number)) 0 (turn_held number))
 
       behind : count_of first.outer * count_of first.inner ≤ number → Within (claims_by (claims_word number)) (family_of (λ w. None) nest number)
       behind past = subst (λ (o : Option (ℕ × List ℤ)). Within (claims_by (claims_word number)) (option_map_or (λ (i : ℕ × List ℤ). plain (λ w. None) (cut_at nest i)) o tree.Finished)) (sym (none_behind program form words number past)) tt

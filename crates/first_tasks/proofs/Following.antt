@@ -17,11 +17,11 @@ use Rattle.nest_syntax.specs.Course as course
 use Rattle.nest_syntax.specs.FirstForm.{First, Turns, IsKept, IsFirstForm, greatest_bound}
 use Rattle.nest_syntax.proofs.Equations.{value-number, names_written-number, looped-is, item-loop}
 use Rattle.addr_slice.proofs.Parts.{write_of, invocation_of, region_of as region}
-use Rattle.settle_law.specs.Courses.{Nest, Scalar, Follows, nest_of, trap_of, cut_at}
+use Rattle.settle_law.specs.Courses.{Nest, Scalar, Follows, nest_of, trap_of}
 use Rattle.first_tasks.specs.declared.position.Position.{Position}
 use Rattle.first_tasks.specs.declared.position.Position.TheVariants as position
 use Rattle.first_tasks.specs.Form.{first_of, count_of}
-use Rattle.first_tasks.specs.Iterations.{iteration_of, cut_turn}
+use Rattle.first_tasks.specs.Iterations.{iteration_of, what_in}
 use Rattle.first_tasks.specs.Positions.{event_at}
 use Rattle.first_tasks.proofs.Forms.{first-kept, form_with}
 
@@ -88,7 +88,7 @@ module _ (program : Program) (form : IsFirstForm program) (words : List ℤ) whe
   nest = nest_of program words
 
   abbrev Follow : Position → Course → Type 0
-  Follow cursor left = Follows nest (cut_turn program) (event_at first) cursor left
+  Follow cursor left = Follows nest (what_in program) (event_at first) cursor left
 
   abbrev opened : List ℤ
   opened = opening_scalars program
@@ -99,14 +99,13 @@ module _ (program : Program) (form : IsFirstForm program) (words : List ℤ) whe
 
   follow_iterations : (n t k : ℕ) (scalars : List ℤ) (rest : Course) → k + n ≡ count_of first.inner → scalars ≡ with_scalar opened first.outer.name (variable (pos first.outer.low) 1 t)
       → Follow (position.Turn (suc t)) rest → Follow (position.Inside t k) (iterations n k 0 (λ j. with_scalar scalars first.inner.name (variable (pos first.inner.low) 1 j)) scalars rest)
-  unfolding cut_turn
   follow_iterations zero t k scalars rest count are follows =
       (position.Turn (suc t), cond-false (nat_lt k (count_of first.inner)) _ _ (le-ltb k (count_of first.inner) (omega arith)), follows)
   follow_iterations (suc n) t k scalars rest count are follows = (
     iteration_of first t k,
     position.Inside t (suc k),
     cond-true (nat_lt k (count_of first.inner)) _ _ (lt-ltb k (count_of first.inner) (omega arith)),
-    ap (λ s. cut_at nest (0, with_scalar s first.inner.name (variable (pos first.inner.low) 1 k))) (sym are),
+    ap (λ (s : List ℤ). let i : ℕ × List ℤ = (0, with_scalar s first.inner.name (variable (pos first.inner.low) 1 k)) in i) (sym are),
     follow_iterations n t (suc k) scalars rest (omega arith) are follows,
   )
 
@@ -143,7 +142,7 @@ module _ (program : Program) (form : IsFirstForm program) (words : List ℤ) whe
       ap (λ regions. (in_order (map (region_of setting) regions)).events 0 opened (λ after. course.End)) ((form_with program form).2)
       ∙ region-is setting first (first-kept program) opened (λ after. course.End)
 
-  pub follows : Follows nest (cut_turn program) (event_at first) position.Region nest.course
+  pub follows : Follows nest (what_in program) (event_at first) position.Region nest.course
   follows =
       let setting = setting_of program words in
       let them = items setting first (first-kept program) in

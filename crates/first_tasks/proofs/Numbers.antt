@@ -5,14 +5,14 @@ use Rattle.std.proofs.lemmas.Nat.{mod_below, div-add-mod'}
 use Rattle.nest_syntax.specs.declared.tree.Program.{Program}
 use Rattle.nest_syntax.specs.Outcome.{Event as Passed}
 use Rattle.nest_syntax.specs.FirstForm.{First, IsFirstForm}
-use Rattle.settle_law.specs.Courses.{Nest, Event, End, Scalar, Iterate, Close, Behind, AtEvent, nest_of, iteration_at, cut_at}
+use Rattle.settle_law.specs.Courses.{Nest, Event, End, Scalar, Iterate, Close, Behind, AtEvent, nest_of, iteration_at}
 use Rattle.settle_law.proofs.Cursors.{at_event, begins}
 use Rattle.nest_syntax.specs.Course.{Ordinary, Header}
 use Rattle.first_tasks.specs.declared.position.Iteration.{Iteration}
 use Rattle.first_tasks.specs.declared.position.Position.{Position}
 use Rattle.first_tasks.specs.declared.position.Position.TheVariants as position
 use Rattle.first_tasks.specs.Form.{first_of, count_of}
-use Rattle.first_tasks.specs.Iterations.{iteration_of, iteration_numbered, cut_turn}
+use Rattle.first_tasks.specs.Iterations.{iteration_of, iteration_numbered, what_in}
 use Rattle.first_tasks.specs.Positions.{event_at}
 use Rattle.first_tasks.proofs.Following.{follows}
 
@@ -26,10 +26,10 @@ module _ (program : Program) (form : IsFirstForm program) (words : List ℤ) whe
   -- so many iterations are passed at this position
   pub record IsReached (next : ℕ) (cursor : Position) : Type 0 where
     pub passed : List Passed
-    pub behind : Behind nest (cut_turn program) (event_at first) passed next cursor
+    pub behind : Behind nest (what_in program) (event_at first) passed next cursor
 
-  tells : (next : ℕ) (cursor : Position) (event : Event Iteration Position) (reached : IsReached next cursor) → event_at first cursor ≡ event → AtEvent nest (cut_turn program) (event_at first) reached.passed next event
-  tells next cursor event reached is = subst (AtEvent nest (cut_turn program) (event_at first) reached.passed next) is (at_event nest (cut_turn program) (event_at first) reached.passed next cursor reached.behind)
+  tells : (next : ℕ) (cursor : Position) (event : Event Iteration Position) (reached : IsReached next cursor) → event_at first cursor ≡ event → AtEvent nest (what_in program) (event_at first) reached.passed next event
+  tells next cursor event reached is = subst (AtEvent nest (what_in program) (event_at first) reached.passed next) is (at_event nest (what_in program) (event_at first) reached.passed next cursor reached.behind)
 
   more_turns : (t : ℕ) → t < count_of first.outer → event_at first (position.Turn t) ≡ Scalar Ordinary None (position.Invocation t)
   more_turns t more = ap (λ next. Scalar Ordinary None next) (cond-true (nat_lt t (count_of first.outer)) _ _ (lt-ltb t (count_of first.outer) more))
@@ -43,11 +43,11 @@ module _ (program : Program) (form : IsFirstForm program) (words : List ℤ) whe
       let before = reach_inside t k reached (omega arith) in
       let at = tells (t * count_of first.inner + k) (position.Inside t k) (Iterate (iteration_of first t k) (position.Inside t (suc k))) before (more_iterations t k (omega arith)) in
       let same : suc (t * count_of first.inner + k) ≡ t * count_of first.inner + suc k = omega arith in
-      subst (λ n. IsReached n (position.Inside t (suc k))) same (record { passed = _; behind = at.3 })
+      subst (λ n. IsReached n (position.Inside t (suc k))) same (record { passed = _; behind = at.1 })
 
   reach_turn : (t : ℕ) → t ≤ count_of first.outer → IsReached (t * count_of first.inner) (position.Turn t)
   reach_turn zero le =
-      let at = tells 0 position.Region (Scalar Ordinary None (position.Turn 0)) (record { passed = []; behind = begins Iteration Position nest (cut_turn program) (event_at first) position.Region (follows program form words) }) refl in
+      let at = tells 0 position.Region (Scalar Ordinary None (position.Turn 0)) (record { passed = []; behind = begins Iteration Position nest (what_in program) (event_at first) position.Region (follows program form words) }) refl in
       let same : 0 ≡ 0 * count_of first.inner = omega arith in
       subst (λ n. IsReached n (position.Turn 0)) same (record { passed = _; behind = at.1 })
   reach_turn (suc t) le =
@@ -68,24 +68,17 @@ module _ (program : Program) (form : IsFirstForm program) (words : List ℤ) whe
       record { passed = _; behind = begun.1 }
 
   -- iteration k of turn t
-  pub record IsIteration (number : ℕ) (iteration : Iteration) : Type 0 where
-    pub at : ℕ × List ℤ
-    pub is : iteration_at nest number ≡ Some at
-    pub same : cut_turn program iteration ≡ cut_at nest at
-
-  iteration-in_turn : (t k : ℕ) → t < count_of first.outer → k < count_of first.inner → IsIteration (t * count_of first.inner + k) (iteration_of first t k)
-  iteration-in_turn t k more left =
-      let at = tells (t * count_of first.inner + k) (position.Inside t k) (Iterate (iteration_of first t k) (position.Inside t (suc k))) (reach_inside t k (begin_turn t more) (omega arith)) (more_iterations t k left) in
-      record { at = at.0; is = at.1; same = at.2 }
+  iteration-in_turn : (t k : ℕ) → t < count_of first.outer → k < count_of first.inner → iteration_at nest (t * count_of first.inner + k) ≡ Some (what_in program (iteration_of first t k))
+  iteration-in_turn t k more left = (tells (t * count_of first.inner + k) (position.Inside t k) (Iterate (iteration_of first t k) (position.Inside t (suc k))) (reach_inside t k (begin_turn t more) (omega arith)) (more_iterations t k left)).0
 
   -- a number below their count is one of an iteration
-  pub iteration-numbered : (number : ℕ) → number < count_of first.outer * count_of first.inner → IsIteration number (iteration_numbered first number)
+  pub iteration-numbered : (number : ℕ) → number < count_of first.outer * count_of first.inner → iteration_at nest number ≡ Some (what_in program (iteration_numbered first number))
   iteration-numbered number below =
       let n = count_of first.inner in
       let some : 0 < n = some_of n below in
       let within = mod_below number n some in
       let turn = turn_below number n below some in
-      subst (λ k. IsIteration k (iteration_numbered first number)) (div-add-mod' number n) (iteration-in_turn (number / n) (number % n) turn within)
+      subst (λ k. iteration_at nest k ≡ Some (what_in program (iteration_numbered first number))) (div-add-mod' number n) (iteration-in_turn (number / n) (number % n) turn within)
     where
       some_of : (n : ℕ) → number < count_of first.outer * n → 0 < n
       some_of zero h = absurd (omega arith)

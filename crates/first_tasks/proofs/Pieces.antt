@@ -15,9 +15,11 @@ use Rattle.addr_slice.proofs.Bodies.{bodies-of_first, turn-of_write}
 use Rattle.addr_slice.proofs.Parts.{write_of}
 use Rattle.settle_law.specs.Cuts.{Cut, cut, Finished, Trapped, Reads, Writes, Pauses}
 use Rattle.settle_law.specs.Tasks.{Realises, Loads, Stores, Finishes}
+use Rattle.settle_law.specs.Courses.{nest_of}
+use Rattle.settle_law.specs.Reading.{BodiesBegin}
 use Rattle.first_tasks.specs.declared.position.Iteration.{Iteration}
 use Rattle.first_tasks.specs.Form.{first_of}
-use Rattle.first_tasks.specs.Iterations.{scalars_in, cut_turn}
+use Rattle.first_tasks.specs.Iterations.{scalars_in, what_in, cut_turn}
 use Rattle.first_tasks.specs.Pieces.{Piece, entry, left_behind, stop_at, stop_of, most_reads, system_of}
 use Rattle.first_tasks.specs.declared.stop.Stop.{Stop}
 use Rattle.first_tasks.specs.declared.stop.Stop.TheVariants.{Load, Store, Finish, Trap}
@@ -76,8 +78,9 @@ cut_turn-straight program form iteration =
     (subst (λ (bodies : List (List Stmt)). IsStraight first.length (most_reads first) (cut (sizes_of (arrays_of (decls_of first))) 0 (turn_in (arrays_of (decls_of first)) bodies 0 scalars))) (sym (bodies-of_first program form))
     (subst (λ (turn : Turn). IsStraight first.length (most_reads first) (cut (sizes_of (arrays_of (decls_of first))) 0 turn)) (sym (turn-of_write (arrays_of (decls_of first)) first scalars)) own)))
 
-pub begins : (program : Program) (form : IsFirstForm program) (iteration : Iteration) → Realises (system_of program) (cut_turn program iteration) (entry iteration)
-begins program form iteration = realises program iteration (cut_turn program iteration) (most_reads (first_of program)) [] (omega arith) (cut_turn-straight program form iteration) (left-none (cut_turn program iteration))
+pub begins : (program : Program) (form : IsFirstForm program) (words : List ℤ) → BodiesBegin (system_of program) (nest_of program words) (what_in program) entry
+unfolding cut_turn
+begins program form words iteration k at = realises program iteration (cut_turn program iteration) (most_reads (first_of program)) [] (omega arith) (cut_turn-straight program form iteration) (left-none (cut_turn program iteration))
 
 -- a stop at a word is at one of the array, and a read is one of the few that may come
 possible : (size most : ℕ) (c : Cut) (reads : List ℤ) (piece : Piece) (stop : Stop) → IsStraight size most c → stop_told (stop_at piece (left_behind c reads)) ≡ Some stop → IsPossible size most (length reads) stop

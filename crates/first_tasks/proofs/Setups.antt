@@ -8,7 +8,7 @@ pub right : SetupsAreRight
 right program form words width room some_worker some_room = record {
   some_worker = some_worker;
   some_room = some_room;
-  begins = begins program form;
+  begins = begins program form words;
   follows = follows program form words;
   opens_fixed = λ w told e. absurd (cc);
   apart = λ j k lower none. apart program form words j k none;

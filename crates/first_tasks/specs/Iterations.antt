@@ -25,6 +25,10 @@ iteration_numbered first number = iteration_of first (number / count_of first.in
 abbrev pub scalars_in : Program → Iteration → List ℤ
 scalars_in program iteration = let first = first_of program in with_scalar (with_scalar (opening_scalars program) first.outer.name iteration.outer) first.inner.name iteration.inner
 
+-- the body and the scalars of an iteration
+abbrev pub what_in : Program → Iteration → ℕ × List ℤ
+what_in program iteration = (0, scalars_in program iteration)
+
 -- what an iteration does, and the same cut at its stops
 abbrev pub turn_at : Program → Iteration → Turn
 turn_at program iteration = turn_in (arrays_of program.decls) (bodies_of program) 0 (scalars_in program iteration)

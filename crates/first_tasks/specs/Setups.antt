@@ -9,7 +9,7 @@ use Rattle.first_tasks.specs.declared.position.Iteration.{Iteration}
 use Rattle.first_tasks.specs.declared.position.Position.{Position}
 use Rattle.first_tasks.specs.declared.position.Position.TheVariants.{Region}
 use Rattle.first_tasks.specs.Form.{first_of}
-use Rattle.first_tasks.specs.Iterations.{cut_turn}
+use Rattle.first_tasks.specs.Iterations.{what_in}
 use Rattle.first_tasks.specs.Claims.{clashes}
 use Rattle.first_tasks.specs.Positions.{event_at}
 use Rattle.first_tasks.specs.Pieces.{Piece, entry, system_of}
@@ -28,4 +28,4 @@ setup program width room = record {
 -- It is a setup for the nest of the program, with any opening words: the cursor begins before the region, pieces do what
 -- the cut turns say, and iterations whose claims don't clash are apart.
 abbrev pub SetupsAreRight : Type 0
-SetupsAreRight = (program : Program) → IsFirstForm program → (words : List ℤ) (width room : ℕ) → 0 < width → 0 < room → IsSetupFor (setup program width room) (nest_of program words) (cut_turn program) Region
+SetupsAreRight = (program : Program) → IsFirstForm program → (words : List ℤ) (width room : ℕ) → 0 < width → 0 < room → IsSetupFor (setup program width room) (nest_of program words) (what_in program) Region

@@ -8,7 +8,8 @@ use Rattle.progress_board.specs.declared.actors.Ask.{Ask}
 use Rattle.progress_board.specs.declared.actors.Ask.TheVariants.{Ended}
 use Rattle.progress_board.specs.Options.{IsInRange}
 use Rattle.progress_board.specs.Actors.{is_ready, AllEnded}
-use Rattle.progress_board.specs.Runs.{run, IsReached, IsLegal}
+use Rattle.settle_law.specs.Runs.{run}
+use Rattle.progress_board.specs.Runs.{IsReached, IsLegal}
 use Rattle.progress_board.proofs.Runs.{reached_step, run_keeps}
 
 module _ {S : Type 0} (job_of : S → Nest) (options_of : S → Options) (opening : Nest → Options → S) (step : S → ℕ → Option S)

@@ -1,12 +1,14 @@
 -- Lemmas on a measure that falls at each step.
-use Rattle.std.proofs.Common.{◌≡◌, ℕ, zero, suc, ◌+◌, ◌<◌, ◌≤◌, Option, None, Some, List, [], ◌∷◌, ◌++◌, length, length-append, refl, ap, ◌∙◌, arith, ◌⊎◌, inl, inr, ⊎_elim}
+use Rattle.std.proofs.Common.{◌≡◌, ℕ, zero, suc, ◌+◌, ◌<◌, ◌≤◌, Bool, true, false, Option, None, Some, List, [], ◌∷◌, ◌++◌, length, length-append, refl, sym, ap, ◌∙◌, arith, ◌⊎◌, inl, inr, ⊎_elim}
 use Rattle.std.specs.Prelude.{IsSome}
-use Rattle.std.proofs.lemmas.Bool.{false≢true}
+use Rattle.std.proofs.lemmas.Bool.{false≢true, cases_Bool}
 use Rattle.std.specs.Option.{option_map_or, option_and_then}
 use Rattle.progress_board.specs.Actors.{SomeEnabled}
-use Rattle.progress_board.specs.Runs.{run, Agrees}
-use Rattle.progress_board.specs.Rotation.{taken, after, up_to, GoesOn}
-use Rattle.progress_board.proofs.Rotation.{run-taken}
+use Rattle.settle_law.specs.Runs.{run, IsComplete}
+use Rattle.progress_board.specs.Runs.{Agrees}
+use Rattle.progress_board.specs.Rotation.{taken, after, up_to, rounds, rotation, GoesOn}
+use Rattle.progress_board.proofs.Runs.{run_keeps}
+use Rattle.progress_board.proofs.Rotation.{run-taken, after-append, after_nothing}
 
 -- a number is among those of a list
 abbrev pub In : ℕ → List ℕ → Type 0
@@ -95,3 +97,42 @@ module _ {S : Type 0} (step : S → ℕ → Option S) (P : S → Type 0) (kept :
   -- where some actor has a step, the measure isn't 0
   pub some_left : (s : S) (n : ℕ) → P s → SomeEnabled step s n → 0 < measure s
   some_left s n p some = let fell : measure (after step s (up_to n)) + 1 ≤ measure s = round_falls s n p some in omega arith
+
+  -- Where a machine that isn't finished has a step, and one that is has none, the rotation is a complete history.
+  module _ (n : ℕ) (is_finished : S → Bool) (progress : (s : S) → P s → is_finished s ≡ false → SomeEnabled step s n) (stopped : (s : S) → P s → is_finished s ≡ true → (a : ℕ) → step s a ≡ None) where
+    after_kept : (s : S) (looks : List ℕ) → P s → P (after step s looks)
+    after_kept s looks p = run_keeps step P kept s (after step s looks) (taken step s looks) p (run-taken step s looks)
+
+    -- so many rounds finish the machine, or make the measure as much smaller
+    rounds_fall : (s : S) (k : ℕ) → P s → (is_finished (after step s (rounds n k)) ≡ true) ⊎ (measure (after step s (rounds n k)) + k ≤ measure s)
+    rounds_fall s zero p = inr (omega arith)
+    rounds_fall s (suc k) p =
+        let t = after step s (rounds n k) in
+        let here = after_kept s (rounds n k) p in
+        let next = after-append step s (rounds n k) (up_to n) in
+        ⊎_elim
+        (λ (over : is_finished t ≡ true). inl (ap is_finished (next ∙ after_nothing step t (stopped t here over) (up_to n)) ∙ over))
+        (λ (on : is_finished t ≡ false). ⊎_elim
+        (λ (over : is_finished t ≡ true). absurd (false≢true (sym on ∙ over)))
+        (λ (less : measure t + k ≤ measure s).
+        let same : measure (after step s (rounds n (suc k))) ≡ measure (after step t (up_to n)) = ap measure next in
+        inr (omega (arith, round_falls t n here (progress t here on), less, same)))
+        (rounds_fall s k p))
+        (cases_Bool (is_finished t))
+
+    -- as many rounds as the measure finish it
+    rounds_finish : (s : S) (k : ℕ) → P s → measure s ≤ k → is_finished (after step s (rounds n k)) ≡ true
+    rounds_finish s k p enough = ⊎_elim
+        (λ (over : is_finished (after step s (rounds n k)) ≡ true). over)
+        (λ (less : measure (after step s (rounds n k)) + k ≤ measure s). ⊎_elim
+        (λ (over : is_finished (after step s (rounds n k)) ≡ true). over)
+        (λ (on : is_finished (after step s (rounds n k)) ≡ false). let here = after_kept s (rounds n k) p in absurd (omega (arith, some_left (after step s (rounds n k)) n here (progress (after step s (rounds n k)) here on), less)))
+        (cases_Bool (is_finished (after step s (rounds n k)))))
+        (rounds_fall s k p)
+
+    pub rotation_is_complete : (s : S) (schedule : List ℕ) → P s → IsComplete step is_finished s (rotation step measure s n schedule)
+    rotation_is_complete s schedule p = record {
+      last = after step s (schedule ++ rounds n (measure s));
+      ran = run-taken step s (schedule ++ rounds n (measure s));
+      finished = ap is_finished (after-append step s schedule (rounds n (measure s))) ∙ rounds_finish (after step s schedule) (measure s) (after_kept s schedule p) (omega (arith, taken_le s schedule p));
+    }

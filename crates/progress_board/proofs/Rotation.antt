@@ -3,7 +3,8 @@ use Rattle.std.proofs.Common.{◌≡◌, ℕ, zero, suc, ◌+◌, ◌-◌, ◌<�
 use Rattle.std.proofs.lemmas.List.{append-nil, append_assoc}
 use Rattle.std.proofs.lemmas.Bool.{cases_lt}
 use Rattle.std.specs.Option.{option_map_or}
-use Rattle.progress_board.specs.Runs.{run, Agrees}
+use Rattle.settle_law.specs.Runs.{run}
+use Rattle.progress_board.specs.Runs.{Agrees}
 use Rattle.progress_board.specs.Rotation.{taken, after, up_to, rounds, rotation, GoesOn, StopsIn}
 
 -- the first numbers of more numbers

@@ -2,7 +2,8 @@
 use Rattle.std.proofs.Common.{◌≡◌, ℕ, Option, None, Some, List, [], ◌∷◌, ◌++◌, refl, ap, ◌∙◌, sym, subst}
 use Rattle.std.proofs.lemmas.List.{append-nil, append_assoc}
 use Rattle.std.specs.Option.{option_and_then}
-use Rattle.progress_board.specs.Runs.{run, IsReached, Agrees}
+use Rattle.settle_law.specs.Runs.{run}
+use Rattle.progress_board.specs.Runs.{IsReached, Agrees}
 
 module _ {S : Type 0} (step : S → ℕ → Option S) where
   -- a run of two histories is a run of the second behind one of the first

@@ -23,8 +23,8 @@ rounds n zero = []
 rounds n (suc k) = rounds n k ++ up_to n
 
 -- The rotation of a state with n actors: the entries of the schedule that are enabled, and then rounds of all actors,
--- for as long as any of them is enabled. As many rounds as the measure are enough: a measure falls at each step, so
--- behind them nothing is enabled.
+-- for as long as any of them is enabled. The measure is only a bound on the rounds: a round of a machine that isn't
+-- finished makes a step, each step makes the measure smaller, and rounds behind the last step make none.
 abbrev pub rotation : {S : Type 0} → (S → ℕ → Option S) → (S → ℕ) → S → ℕ → List ℕ → List ℕ
 rotation step measure s n schedule = taken step s (schedule ++ rounds n (measure s))
 

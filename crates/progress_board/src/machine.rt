@@ -69,10 +69,7 @@ pub trait Machine: Send + Drop {
     /// Whether all actors have ended their parts.
     fn finished(&self) -> bool
         ensures says { result ≡ is_finished self.now }
-        ensures legal { IsLegal job_of options_of opening step self.now }
-
-        // In a machine that isn't finished some actor has a step.
-        ensures progress { result ≡ false → SomeEnabled step self.now (actors_of (options_of self.now)) };
+        ensures legal { IsLegal job_of options_of opening step self.now };
 
     /// How the machine ended. `Unfinished` comes exactly where it isn't finished.
     fn ending(&self) -> Ending
@@ -105,6 +102,9 @@ pub trait Machine: Send + Drop {
     ghost stays: { (m n : Self) (actor other : ℕ) → IsLegal job_of options_of opening step m → asked m actor ≡ Ended → step m other ≡ Some n → asked n actor ≡ Ended };
 
     ghost finishes: { (m : Self) → IsLegal job_of options_of opening step m → (is_finished m ≡ true) ↔ AllEnded asked m (actors_of (options_of m)) };
+
+    // In a machine that isn't finished some actor has a step.
+    ghost progress: { (m : Self) → IsLegal job_of options_of opening step m → is_finished m ≡ false → SomeEnabled step m (actors_of (options_of m)) };
 
     // Each step makes the measure smaller.
     ghost falls: { (m n : Self) (actor : ℕ) → IsLegal job_of options_of opening step m → step m actor ≡ Some n → measure n + 1 ≤ measure m };

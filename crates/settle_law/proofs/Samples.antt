@@ -134,7 +134,7 @@ small_event (suc (suc zero)) = Iterate 0 3
 small_event (suc (suc (suc zero))) = Close 4
 small_event (suc (suc (suc (suc n)))) = End
 
-small-follows : Follows (small two_iterations) (λ b. cut.Writes 0 (pos 3) cut.Finished) small_event 0 two_iterations
+small-follows : Follows (small two_iterations) (λ (b : ℕ). (b, [])) small_event 0 two_iterations
 small-follows = (1, refl, λ none. (0, 2, refl, refl, (0, 3, refl, refl, (4, refl, refl))))
 
 -- an event that traps ends the nest

@@ -83,21 +83,22 @@ trap_of (course.Iterate body scalars rest) = None
 trap_of (course.Close scalars rest) = None
 
 -- A cursor follows a course: it stands at the first event of it, and the cursor behind the event follows the rest, where
--- the event doesn't trap. At an iteration, `tree` tells the cut turn of what the cursor gives.
-abbrev pub Follows : {B C : Type 0} → Nest → (B → Cut) → (C → Event B C) → C → Course → Type 0
-Follows nest tree event cursor course.End = event cursor ≡ End
-Follows nest tree event cursor (course.Failed cause line) = ⊥
-Follows {B} {C} nest tree event cursor (course.Scalar purpose scalars rest) = (next : C) × (event cursor ≡ Scalar purpose (trap_of rest) next) × (trap_of rest ≡ None → Follows nest tree event next rest)
-Follows {B} {C} nest tree event cursor (course.Drain purpose scalars rest) = (trap : List ℤ → Option Trap) × (next : List ℤ → C) × (event cursor ≡ Drain purpose trap next) × ((words : List ℤ) → (trap words ≡ trap_of (rest words)) × (trap_of (rest words) ≡ None → Follows nest tree event (next words) (rest words)))
-Follows {B} {C} nest tree event cursor (course.Iterate body scalars rest) = (b : B) × (next : C) × (event cursor ≡ Iterate b next) × (tree b ≡ cut_at nest (body, scalars)) × Follows nest tree event next rest
-Follows {B} {C} nest tree event cursor (course.Close scalars rest) = (next : C) × (event cursor ≡ Close next) × Follows nest tree event next rest
+-- the event doesn't trap. At an iteration, `what` tells of the body that the cursor gives which body of the program it is,
+-- with which scalars: it is the course's iteration.
+abbrev pub Follows : {B C : Type 0} → Nest → (B → ℕ × List ℤ) → (C → Event B C) → C → Course → Type 0
+Follows nest what event cursor course.End = event cursor ≡ End
+Follows nest what event cursor (course.Failed cause line) = ⊥
+Follows {B} {C} nest what event cursor (course.Scalar purpose scalars rest) = (next : C) × (event cursor ≡ Scalar purpose (trap_of rest) next) × (trap_of rest ≡ None → Follows nest what event next rest)
+Follows {B} {C} nest what event cursor (course.Drain purpose scalars rest) = (trap : List ℤ → Option Trap) × (next : List ℤ → C) × (event cursor ≡ Drain purpose trap next) × ((words : List ℤ) → (trap words ≡ trap_of (rest words)) × (trap_of (rest words) ≡ None → Follows nest what event (next words) (rest words)))
+Follows {B} {C} nest what event cursor (course.Iterate body scalars rest) = (b : B) × (next : C) × (event cursor ≡ Iterate b next) × (what b ≡ (body, scalars)) × Follows nest what event next rest
+Follows {B} {C} nest what event cursor (course.Close scalars rest) = (next : C) × (event cursor ≡ Close next) × Follows nest what event next rest
 
 -- What of a nest lies behind a cursor that has passed `next` iterations: it follows a course such that the events passed
 -- and those that are left are the events of the nest, and from the words that textual order reaches there, what is left
 -- ends as the nest does.
-pub record Behind {B C : Type 0} (nest : Nest) (tree : B → Cut) (event : C → Event B C) (passed : List Passed) (next : ℕ) (cursor : C) : Type 0 where
+pub record Behind {B C : Type 0} (nest : Nest) (what : B → ℕ × List ℤ) (event : C → Event B C) (passed : List Passed) (next : ℕ) (cursor : C) : Type 0 where
   pub left : Course
-  pub follows : Follows nest tree event cursor left
+  pub follows : Follows nest what event cursor left
   pub counts : length (iterations_among passed) ≡ next
   pub all_events : passed ++ events_left nest left (reached nest next) ≡ events nest
   pub ends : (words : List ℤ) → reached nest next ≡ Some words → ending_from nest.sizes nest.turn left next words ≡ outcome nest
@@ -105,30 +106,30 @@ pub record Behind {B C : Type 0} (nest : Nest) (tree : B → Cut) (event : C →
 -- What the event at which a cursor stands says of the nest. Behind an event the next cursor has passed it too, and an
 -- iteration is the nest's next one. Where textual order gets there, a trap is the outcome, and so are the words at the
 -- end, behind which there is no iteration.
-module _ {B C : Type 0} (nest : Nest) (tree : B → Cut) (event : C → Event B C) (passed : List Passed) (next : ℕ) where
+module _ {B C : Type 0} (nest : Nest) (what : B → ℕ × List ℤ) (event : C → Event B C) (passed : List Passed) (next : ℕ) where
   -- the scheduler traps before the next iteration, if textual order gets there
   abbrev pub TrapsThere : Trap → Type 0
   TrapsThere trap = (words : List ℤ) → reached nest next ≡ Some words → outcome nest ≡ TrappedAt (place_of_trap trap.cause trap.line next true)
 
   -- behind an event of the scheduler that is no iteration: its trap, or the next cursor
   abbrev pub Onward : Passed → Option Trap → C → Type 0
-  Onward this None after = Behind nest tree event (passed ++ this ∷ []) next after
+  Onward this None after = Behind nest what event (passed ++ this ∷ []) next after
   Onward this (Some trap) after = TrapsThere trap
 
   abbrev pub AtEvent : Event B C → Type 0
   AtEvent End = (events nest ≡ passed ++ Ends ∷ []) × ((k : ℕ) → next ≤ k → iteration_at nest k ≡ None) × ((words : List ℤ) → reached nest next ≡ Some words → outcome nest ≡ Done words)
   AtEvent (Scalar purpose trap after) = (scalars : List ℤ) × Onward (Computes purpose scalars) trap after
   AtEvent (Drain purpose trap after) = (scalars : List ℤ) × ((words : List ℤ) → reached nest next ≡ Some words → Onward (Drains purpose scalars) (trap words) (after words))
-  AtEvent (Iterate b after) = (i : ℕ × List ℤ) × (iteration_at nest next ≡ Some i) × (tree b ≡ cut_at nest i) × Behind nest tree event (passed ++ Iterates i.0 i.1 ∷ []) (suc next) after
+  AtEvent (Iterate b after) = (iteration_at nest next ≡ Some (what b)) × Behind nest what event (passed ++ Iterates (what b).0 (what b).1 ∷ []) (suc next) after
   AtEvent (Close after) = (scalars : List ℤ) × Onward (Closes scalars) None after
 
 -- Each event of a cursor with this behind it says so. And a cursor that follows the course of the nest has all of it
 -- before it.
 abbrev pub EventsTell : Type 0 → Type 0 → Type 0
-EventsTell B C = (nest : Nest) (tree : B → Cut) (event : C → Event B C) (passed : List Passed) (next : ℕ) (cursor : C) → Behind nest tree event passed next cursor → AtEvent nest tree event passed next (event cursor)
+EventsTell B C = (nest : Nest) (what : B → ℕ × List ℤ) (event : C → Event B C) (passed : List Passed) (next : ℕ) (cursor : C) → Behind nest what event passed next cursor → AtEvent nest what event passed next (event cursor)
 
 abbrev pub CursorsBegin : Type 0 → Type 0 → Type 0
-CursorsBegin B C = (nest : Nest) (tree : B → Cut) (event : C → Event B C) (cursor : C) → Follows nest tree event cursor nest.course → Behind nest tree event [] 0 cursor
+CursorsBegin B C = (nest : Nest) (what : B → ℕ × List ℤ) (event : C → Event B C) (cursor : C) → Follows nest what event cursor nest.course → Behind nest what event [] 0 cursor
 
 -- An iteration that textual order reaches and that traps there is the outcome.
 abbrev pub TrappedIterationIsOutcome : Type 0

@@ -1,6 +1,7 @@
 pub mod Trees
 pub mod Cuts
 pub mod Traces
+pub mod Runs
 pub mod Law
 pub mod Claims
 pub mod Reading

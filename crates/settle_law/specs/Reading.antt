@@ -11,12 +11,12 @@ use Rattle.nest_syntax.specs.Reads as reads
 use Rattle.nest_syntax.specs.Outcome.{after as program_after, ending, iteration_turn, events_of, accesses_of}
 use Rattle.settle_law.specs.Trees.{Tree, turn}
 use Rattle.settle_law.specs.Trees as tree
-use Rattle.settle_law.specs.Cuts.{Cut, cut, plain_turn, CanBeRead, HoldsFixed}
+use Rattle.settle_law.specs.Cuts.{cut, plain_turn, CanBeRead, HoldsFixed}
 use Rattle.settle_law.specs.Traces.{Access, Read, Write, Each, Conflict, Makes, Apart}
 use Rattle.settle_law.specs.Law.{accesses, after}
 use Rattle.settle_law.specs.Claims.{Claims, Within, Covers}
 use Rattle.settle_law.specs.Tasks.{System, Realises}
-use Rattle.settle_law.specs.Courses.{Event, Follows, Nest, nest_of, events, iteration_at, reached, family_of, outcome}
+use Rattle.settle_law.specs.Courses.{Event, Follows, Nest, nest_of, events, iteration_at, reached, cut_at, family_of, outcome}
 
 -- an access without the number of its iteration, and one with it
 abbrev pub bare : Access → reads.Access
@@ -150,10 +150,13 @@ RealisedTurnsKeep P = (sys : System P) (sizes : List ℕ) (t : Turn) (piece : P)
 abbrev pub NestKeepsFixed : (ℕ → Option ℤ) → Nest → Type 0
 NestKeepsFixed fixed nest = (k : ℕ) (i : ℕ × List ℤ) → iteration_at nest k ≡ Some i → KeepsFixed nest.sizes fixed (nest.turn i.0 i.1)
 
--- A nest keeps its `const` words where a cursor follows its course and each body of the cursor has a piece that realises
--- its cut turn.
+-- each body that is handed out, which is one of an iteration of the nest, begins with a piece that realises its cut turn
+abbrev pub BodiesBegin : {B P : Type 0} → System P → Nest → (B → ℕ × List ℤ) → (B → P) → Type 0
+BodiesBegin {B} {P} sys nest what entry = (b : B) (k : ℕ) → iteration_at nest k ≡ Some (what b) → Realises sys (cut_at nest (what b)) (entry b)
+
+-- A nest keeps its `const` words where a cursor follows its course and the bodies that are handed out begin so.
 abbrev pub FollowedNestsKeep : Type 0 → Type 0 → Type 0 → Type 0
-FollowedNestsKeep B C P = (sys : System P) (nest : Nest) (tree : B → Cut) (entry : B → P) (event : C → Event B C) (cursor : C) → ((b : B) → Realises sys (tree b) (entry b)) → Follows nest tree event cursor nest.course → NestKeepsFixed sys.fixed nest
+FollowedNestsKeep B C P = (sys : System P) (nest : Nest) (what : B → ℕ × List ℤ) (entry : B → P) (event : C → Event B C) (cursor : C) → BodiesBegin sys nest what entry → Follows nest what event cursor nest.course → NestKeepsFixed sys.fixed nest
 
 -- The words that textual order reaches are those of the law, for the family of the nest, and the told words keep their
 -- values.

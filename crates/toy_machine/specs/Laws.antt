@@ -11,7 +11,7 @@ use Rattle.progress_board.specs.declared.options.Options.{Options}
 use Rattle.progress_board.specs.declared.actors.Ask.TheVariants.{Ended}
 use Rattle.progress_board.specs.declared.facts.Facts.{Facts}
 use Rattle.progress_board.specs.Actors.{actors_of, is_ready, SomeEnabled, AllEnded}
-use Rattle.progress_board.proofs.Runs.{reached_step}
+use Rattle.progress_board.proofs.Runs.{reached_step, run_keeps}
 use Rattle.toy_machine.specs.State.{State}
 use Rattle.toy_machine.specs.Tokens.{Move, Hands, Halts, Takes, move_of, state_after, step, has_ended, answer, asked, is_finished, measure, opening, no_facts}
 use Rattle.toy_machine.specs.Kept.{IsSound, IsKept}
@@ -132,17 +132,23 @@ worker_can s some left = record {
 left_over : (s : State) → s.taken ≤ s.handed → s.halted ≡ true → is_finished s ≡ false → s.taken < s.handed
 left_over s order halted unfinished = grind (arith, nat_tests)
 
-pub progress : (s : State) → 1 ≤ s.options.workers → IsSound s → is_finished s ≡ false → SomeEnabled step s (actors_of s.options)
-progress s some sound unfinished = ⊎_elim
-    (λ (halted : s.halted ≡ true). worker_can s some (left_over s sound.taken halted unfinished))
-    (λ (going : s.halted ≡ false). scheduler_can s going)
-    (cases_Bool s.halted)
-
 -- what the relay keeps
 sound_move : (s : State) (actor : ℕ) (move : Move) → Guard s actor move → IsSound s → IsSound (state_after s move)
 sound_move s actor Hands g sound = record { taken = omega arith; handed = omega arith; halted = λ e. absurd (cc) }
 sound_move s actor Halts g sound = record { taken = sound.taken; handed = sound.handed; halted = λ e. omega arith }
 sound_move s actor Takes g sound = record { taken = omega arith; handed = sound.handed; halted = sound.halted }
+
+sound_step : (s t : State) (actor : ℕ) → IsSound s → step s actor ≡ Some t → IsSound t
+sound_step s t actor sound e = let m = moved s actor t e in subst IsSound m.new (sound_move s actor m.move m.guard sound)
+
+sound_reached : (s : State) → IsReached step (opening s.job s.options) s → IsSound s
+sound_reached s reached = run_keeps step IsSound sound_step (opening s.job s.options) s reached.history (record { taken = omega arith; handed = omega arith; halted = λ e. absurd (cc) }) reached.ran
+
+pub progress : (s : State) → 1 ≤ s.options.workers → IsReached step (opening s.job s.options) s → is_finished s ≡ false → SomeEnabled step s (actors_of s.options)
+progress s some reached unfinished = ⊎_elim
+    (λ (halted : s.halted ≡ true). worker_can s some (left_over s (sound_reached s reached).taken halted unfinished))
+    (λ (going : s.halted ≡ false). scheduler_can s going)
+    (cases_Bool s.halted)
 
 pub kept_move : (s : State) (actor : ℕ) (move : Move) (facts : Facts) → move_of s actor ≡ Some move → IsKept s facts → IsKept (state_after s move) facts
 kept_move s actor move facts e kept = record {

@@ -39,8 +39,6 @@ impl Model for Relay {
 }
 
 impl Relay {
-    ghost use Rattle.toy_machine.specs.Kept.{IsSound};
-
     /// The opening state, with no token handed out.
     pub fn open(job: Job, options: Options) -> Relay
         requires { IsInRange options }
@@ -120,7 +118,6 @@ impl Relay {
         ensures over { result ≡ is_finished self.now }
         ensures runs { CanRun self.now.job }
         ensures allowed { IsInRange self.now.options }
-        ensures sound { IsSound self.now }
         ensures reached { IsReached step (opening self.now.job self.now.options) self.now }
     {
         self.halted && self.taken == self.handed
@@ -159,7 +156,7 @@ fn facts_of_none(options: Options) -> Facts
 impl Machine for Relay {
     ghost use Rattle.progress_board.specs.Runs.{IsLegal};
     ghost use Rattle.toy_machine.specs.State.{State};
-    ghost use Rattle.toy_machine.specs.Laws.{keeps_job, keeps_options, readies, actors, stays, finishes, falls};
+    ghost use Rattle.toy_machine.specs.Laws.{keeps_job, keeps_options, readies, actors, stays, finishes, progress, falls};
     ghost use Rattle.std.specs.Prelude.{refl};
 
     ghost job_of = { λ s. s.job };
@@ -244,6 +241,8 @@ impl Machine for Relay {
     ghost stays = { λ m n actor other legal ended e. stays m n actor other ended e };
 
     ghost finishes = { λ m legal. finishes m legal.allowed.some_worker };
+
+    ghost progress = { λ m legal unfinished. progress m legal.allowed.some_worker legal.reached unfinished };
 
     ghost falls = { λ m n actor legal e. falls m n actor e };
 }

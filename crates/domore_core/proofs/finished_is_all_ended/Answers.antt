@@ -2,4 +2,4 @@ use Rattle.domore_core.proofs.Ended.{finishes}
 use Rattle.domore_core.proofs.finished_is_all_ended.Goals as goal
 
 pub returns : goal.returns
-returns g c = λ m nest tree start setup history s leads. finishes _ _ _ m nest tree start setup history s leads
+returns g c = λ m nest what start setup history s leads. finishes _ _ _ m nest what start setup history s leads

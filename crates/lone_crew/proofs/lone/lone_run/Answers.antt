@@ -46,7 +46,7 @@ rounds-smaller g c =
     let met = g.met.M.Machine g.world.𝓛 g.world.𝓜 g.world.𝓡 ((λ s x. x), (λ x. x), (λ x. x), λ x. x) in
     let kept = legal_step m.job_of m.options_of m.opening m.step met.keeps_job met.keeps_options in
     let count : actors_of (m.options_of c.rounds.machine) ≡ c.count_actors-actors.result = ap actors_of c.rounds.invariant.kept ∙ sym c.count_actors-actors.ensures.count in
-    let some = subst (λ (n : ℕ). SomeEnabled m.step c.rounds.machine n) count (c.rounds-test.ensures.progress refl) in
+    let some = subst (λ (n : ℕ). SomeEnabled m.step c.rounds.machine n) count (met.progress _ c.rounds-test.ensures.legal (sym c.rounds-test.ensures.says)) in
     let fell : m.measure c.round.new.machine + 1 ≤ m.measure c.rounds.machine =
     round_goes_falls m.step (IsLegal m.job_of m.options_of m.opening m.step) kept m.measure met.falls _ _ _ _ _ c.rounds-test.ensures.legal some c.in_ok-round.ensures.goes in
     omega arith
@@ -58,7 +58,7 @@ rounds-preserved g c =
     let kept = legal_step m.job_of m.options_of m.opening m.step met.keeps_job met.keeps_options in
     let so_far = c.rounds.invariant in
     let count : actors_of (m.options_of c.rounds.machine) ≡ c.count_actors-actors.result = ap actors_of so_far.kept ∙ sym c.count_actors-actors.ensures.count in
-    let some = subst (λ (n : ℕ). SomeEnabled m.step c.rounds.machine n) count (c.rounds-test.ensures.progress refl) in
+    let some = subst (λ (n : ℕ). SomeEnabled m.step c.rounds.machine n) count (met.progress _ c.rounds-test.ensures.legal (sym c.rounds-test.ensures.says)) in
     let fell : m.measure c.round.new.machine + 1 ≤ m.measure c.rounds.machine =
     round_goes_falls m.step (IsLegal m.job_of m.options_of m.opening m.step) kept m.measure met.falls _ _ _ _ _ c.rounds-test.ensures.legal some c.in_ok-round.ensures.goes in
     let further = subst (λ (n : ℕ). GoesOn m.step c.rounds.machine c.rounds.history.items (up_to n) c.round.new.machine c.round.new.history.items)
@@ -91,7 +91,7 @@ returns-in_err-round-clause-stopped g c =
     let kept = legal_step m.job_of m.options_of m.opening m.step met.keeps_job met.keeps_options in
     let so_far = c.rounds.invariant in
     let left : 0 < m.measure c.rounds.machine =
-    some_left m.step (IsLegal m.job_of m.options_of m.opening m.step) kept m.measure met.falls _ _ c.rounds-test.ensures.legal (c.rounds-test.ensures.progress refl) in
+    some_left m.step (IsLegal m.job_of m.options_of m.opening m.step) kept m.measure met.falls _ _ c.rounds-test.ensures.legal (met.progress _ c.rounds-test.ensures.legal (sym c.rounds-test.ensures.says)) in
     let stopped = subst (λ (n : ℕ). StopsIn m.step c.rounds.machine c.rounds.history.items (up_to n) c.round.new.machine c.round.new.history.items)
     c.count_actors-actors.ensures.count c.in_err-round.ensures.stopped in
     let p = err_from_is_err_and c.from_residual-in_err-round.result c.from_residual-in_err-round.ensures.1 in

@@ -14,4 +14,4 @@ returns c =
     let is : t ≡ c.loop-wait.self = c.self.view_is in
     let more : report.iterations + 1 ≡ suc report.iterations = omega arith in
     ap (λ (n : ℕ). let u : Tallied = record t { facts = record t.facts { iterations = n } } in u) more
-    ∙ handed_out report first c.args.self.now waits left c.self.invariant (drop_all c.loop-wait.wait-index waits c.loop-wait-test.false) (ap (λ (u : Tallied). u.options) is ∙ c.loop-wait.invariant.options) (ap (λ (u : Tallied). with_waits u.facts left) is ∙ c.loop-wait.invariant.same)
+    ∙ handed_out report first c.args.number c.args.self.now waits left c.self.invariant (drop_all c.loop-wait.wait-index waits c.loop-wait-test.false) (ap (λ (u : Tallied). u.options) is ∙ c.loop-wait.invariant.options) (ap (λ (u : Tallied). with_waits c.args.number u.facts left) is ∙ c.loop-wait.invariant.same)
