@@ -5,3 +5,4 @@ pub mod Needing
 pub mod Stepping
 pub mod LastAccesses
 pub mod Updating
+pub mod Handing
