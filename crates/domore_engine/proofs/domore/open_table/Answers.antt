@@ -1,4 +1,4 @@
-use Rattle.std.proofs.Common.{◌≡◌, length, ap, sym, subst, ◌∙◌, arith, refl}
+use Rattle.std.proofs.Common.{◌≡◌, ◌+◌, length, ap, sym, subst, ◌∙◌, arith, refl}
 use Rattle.std.proofs.lemmas.List.{length-replicate}
 use Rattle.nest_syntax.specs.declared.tree.Program.{Program}
 use Rattle.nest_syntax.specs.Arrays.{arrays_of, sizes_of}
@@ -19,7 +19,8 @@ pub returns-clause-sound : goal.returns-clause-sound
 returns-clause-sound c =
     let job = c.args.job.now in
     let tally = c.open.ensures in
-    let as_long : c.parts_in-length.result.length ≡ (first_of (program_in job)).length = c.parts_in-length.ensures.size ∙ ap (λ (p : Program). (first_of (first_form p)).length) c.program_of.ensures in
+    let sum_is : 0 + c.parts_in-length.result.length ≡ c.parts_in-length.result.length = omega arith in
+    let as_long : 0 + c.parts_in-length.result.length ≡ (first_of (program_in job)).length = sum_is ∙ c.parts_in-length.ensures.size ∙ ap (λ (p : Program). (first_of (first_form p)).length) c.program_of.ensures in
     record {
       few_workers = c.requires.allowed.few_workers;
       some_worker = omega (arith, c.requires.allowed.some_worker);
