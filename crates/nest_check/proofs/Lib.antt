@@ -8,3 +8,5 @@ pub mod Judged
 pub mod Bodies
 pub mod Few
 pub mod Distinct
+pub mod Writable
+pub mod Inside

@@ -8,3 +8,4 @@ pub mod Course
 pub mod Outcome
 pub mod Named
 pub mod FirstForm
+pub mod Inside
