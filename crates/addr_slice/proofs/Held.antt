@@ -1,8 +1,8 @@
 -- The claims of a list are in the set that they are put into.
-use Rattle.std.proofs.Common.{◌≡◌, ℕ, ◌<◌, Bool, true, false, IsTrue, List, [], ◌∷◌, ◌++◌, length, set, ⊎_elim, refl, ap, sym, ◌∙◌, arith}
+use Rattle.std.proofs.Common.{◌≡◌, ℕ, ◌<◌, Bool, true, false, IsTrue, List, [], ◌∷◌, ◌++◌, set, ⊎_elim, refl, ap, sym, ◌∙◌, arith}
 use Rattle.std.proofs.lemmas.Bool.{cases_eq}
 use Rattle.std.proofs.lemmas.List.{get_or-set_same, get_or-set_other, length-set}
-use Rattle.addr_slice.specs.Claims.{Claim, Claimed, has, is_set, words_of, with_claim, with_claims}
+use Rattle.addr_slice.specs.Claims.{Claim, Claimed, has, is_set, words_of, with_claim, with_claims, IsEven}
 use Rattle.addr_slice.proofs.Sets.{is_set-within}
 
 -- what holds of each claim of a list
@@ -11,8 +11,8 @@ Each P [] = Unit {0}
 Each P (c ∷ list) = P c × Each P list
 
 -- each claim of a list is claimed
-abbrev pub AllClaimed : (ℕ → Bool → Bool) → List Claim → Type 0
-AllClaimed claimed list = Each (λ c. IsTrue (claimed c.word c.write)) list
+abbrev pub AllClaimed : Claimed → List Claim → Type 0
+AllClaimed claims list = Each (λ c. IsTrue (has claims c.word c.write)) list
 
 pub Each-append : (P : Claim → Type 0) (first second : List Claim) → Each P first → Each P second → Each P (first ++ second)
 Each-append P [] second h k = k
@@ -46,11 +46,11 @@ stays : (list : List Claim) (claims : Claimed) (k : ℕ) (v : Bool) → has clai
 stays [] claims k v is = is
 stays (c ∷ list) claims k v is = stays list (with_claim claims c.word c.write) k v (has-stays claims c.word c.write k v is)
 
-is_there : (claims : Claimed) (n : ℕ) (w : Bool) → length claims.writes ≡ length claims.reads → n < words_of claims → has (with_claim claims n w) n w ≡ true
+is_there : (claims : Claimed) (n : ℕ) (w : Bool) → IsEven claims → n < words_of claims → has (with_claim claims n w) n w ≡ true
 is_there claims n true even h = get_or-set_same claims.writes n true false (omega arith)
 is_there claims n false even h = get_or-set_same claims.reads n true false h
 
-even_still : (claims : Claimed) (n : ℕ) (w : Bool) → length claims.writes ≡ length claims.reads → length (with_claim claims n w).writes ≡ length (with_claim claims n w).reads
+even_still : (claims : Claimed) (n : ℕ) (w : Bool) → IsEven claims → IsEven (with_claim claims n w)
 even_still claims n true even = length-set claims.writes n true ∙ even
 even_still claims n false even = even ∙ sym (length-set claims.reads n true)
 
@@ -58,7 +58,11 @@ as_many : (claims : Claimed) (n : ℕ) (w : Bool) → words_of (with_claim claim
 as_many claims n true = refl
 as_many claims n false = length-set claims.reads n true
 
-pub claimed-from_list : (list : List Claim) (claims : Claimed) → length claims.writes ≡ length claims.reads → Each (λ c. c.word < words_of claims) list → AllClaimed (has (with_claims claims list)) list
+pub with_claims-even : (list : List Claim) (claims : Claimed) → IsEven claims → IsEven (with_claims claims list)
+with_claims-even [] claims even = even
+with_claims-even (c ∷ list) claims even = with_claims-even list (with_claim claims c.word c.write) (even_still claims c.word c.write even)
+
+pub claimed-from_list : (list : List Claim) (claims : Claimed) → IsEven claims → Each (λ c. c.word < words_of claims) list → AllClaimed (with_claims claims list) list
 claimed-from_list [] claims even h = tt
 claimed-from_list (c ∷ list) claims even h =
     let more = with_claim claims c.word c.write in

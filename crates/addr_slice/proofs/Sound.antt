@@ -16,7 +16,8 @@ use Rattle.nest_syntax.specs.Turn.{Turn, Reckoning, reckoning, operation_turn, d
 use Rattle.nest_syntax.specs.FirstForm.{is_allowed, is_arithmetic}
 use Rattle.nest_syntax.proofs.Equations.{value-number, value-scalar, value-binary, reckoning-number, reckoning-scalar, reckoning-word, reckoning-binary}
 use Rattle.addr_slice.specs.Walk.{Walk, trap, claim, touched, and_then_walk, walk, walk_of_write, scalars_with}
-use Rattle.addr_slice.specs.Within.{Within}
+use Rattle.settle_law.specs.Reading.{WithinTurn}
+use Rattle.addr_slice.specs.Claims.{Claimed, has, by_word}
 use Rattle.addr_slice.proofs.Nodes.{expr_induction, allowed-scalar, allowed-word, allowed-unary, allowed-binary, allowed-choice}
 use Rattle.addr_slice.proofs.Walks.{walk-number, walk-scalar, walk-word, walk-binary, and_then_walk-trapped, and_then_walk-went_on}
 use Rattle.addr_slice.proofs.Room.{one_array}
@@ -41,7 +42,7 @@ turn-arithmetic bin.Sub h left right line scalars go = refl
 turn-arithmetic bin.Mul h left right line scalars go = refl
 turn-arithmetic _ h left right line scalars go = absurd (false≢true h)
 
-module _ (array size outer inner : ℕ) (x y : ℤ) (scalars : List ℤ) (claimed : ℕ → Bool → Bool)
+module _ (array size outer inner : ℕ) (x y : ℤ) (scalars : List ℤ) (claims : Claimed)
     (distinct : outer ≢ inner) (of_outer : scalar_at scalars outer ≡ x) (of_inner : scalar_at scalars inner ≡ y) where
   abbrev arrays : List Array
   arrays = one_array array size
@@ -50,7 +51,7 @@ module _ (array size outer inner : ℕ) (x y : ℤ) (scalars : List ℤ) (claime
   given = scalars_with outer x inner y
 
   abbrev IsHeld : Turn → Type 0
-  IsHeld turn = Within (sizes_of arrays) claimed turn
+  IsHeld turn = WithinTurn (sizes_of arrays) (λ w. None) (by_word claims) turn
 
   abbrev zeros : List ℤ
   zeros = replicate (suc (outer + inner)) (pos 0)
@@ -108,15 +109,15 @@ module _ (array size outer inner : ℕ) (x y : ℤ) (scalars : List ℤ) (claime
   -- An expression whose claims are claimed: each word that its turn reads is claimed, and where the walk trapped the
   -- turn goes no further than the walk did.
   abbrev ValueHeld : Expr → Type 0
-  ValueHeld e = IsTrue (is_allowed array outer inner e true) → AllClaimed claimed (walk arrays given e).claims → (line : Line) (go : ℤ → Turn)
+  ValueHeld e = IsTrue (is_allowed array outer inner e true) → AllClaimed claims (walk arrays given e).claims → (line : Line) (go : ℤ → Turn)
       → ((walk arrays given e).trapped ≡ false → (v : ℤ) → IsHeld (go v)) → IsHeld (reckoning arrays e line scalars go)
 
   abbrev claimed_at : Bool → Option (ℕ × ℕ) → Walk
   claimed_at write o = option_map_or (λ (p : ℕ × ℕ). claim (word_number (sizes_of arrays) p.0 p.1) write) o trap
 
-  read-held : (line : Line) (go : ℤ → Turn) (o : Option (ℕ × ℕ)) → AllClaimed claimed (claimed_at false o).claims → ((claimed_at false o).trapped ≡ false → (v : ℤ) → IsHeld (go v)) → IsHeld (inside line o (λ array n. Load array n go))
+  read-held : (line : Line) (go : ℤ → Turn) (o : Option (ℕ × ℕ)) → AllClaimed claims (claimed_at false o).claims → ((claimed_at false o).trapped ≡ false → (v : ℤ) → IsHeld (go v)) → IsHeld (inside line o (λ array n. Load array n go))
   read-held line go None h next = tt
-  read-held line go (Some p) h next = (h.0, next refl)
+  read-held line go (Some p) h next = (λ _. h.0, λ v _. next refl v)
 
   value-held_word : (name : ℕ) (place : Expr) → ValueHeld place → ValueHeld (expr.Word name place)
   value-held_word name place p is h line go next =
@@ -125,7 +126,7 @@ module _ (array size outer inner : ℕ) (x y : ℤ) (scalars : List ℤ) (claime
       let walked : walk arrays given (expr.Word name place) ≡ claimed_at false (located arrays name plain.0) = walk-word arrays given name place ∙ ap (touched arrays name false) plain.1 in
       subst (λ (r : Reckoning). IsHeld (r line scalars go)) (sym (reckoning-word arrays name place))
       (plain.2 line (λ at. inside line (located arrays name at) (λ array n. Load array n go))
-      (read-held line go (located arrays name plain.0) (subst (λ (w : Walk). AllClaimed claimed w.claims) walked h)
+      (read-held line go (located arrays name plain.0) (subst (λ (w : Walk). AllClaimed claims w.claims) walked h)
       (subst (λ (w : Walk). w.trapped ≡ false → (v : ℤ) → IsHeld (go v)) walked next)))
 
   value-held_binary : (o : Bin) (a b : Expr) → ValueHeld a → ValueHeld b → ValueHeld (expr.Binary o a b)
@@ -138,14 +139,14 @@ module _ (array size outer inner : ℕ) (x y : ℤ) (scalars : List ℤ) (claime
       subst (λ (r : Reckoning). IsHeld (r line scalars go)) (sym (reckoning-binary arrays o a b))
       (⊎_elim
       (λ (stops : first.trapped ≡ true).
-      p each.0 (subst (λ (w : Walk). AllClaimed claimed w.claims) (walked ∙ and_then_walk-trapped first second stops) h) line (λ v. operation_turn o v (reckoning arrays b) line scalars go)
+      p each.0 (subst (λ (w : Walk). AllClaimed claims w.claims) (walked ∙ and_then_walk-trapped first second stops) h) line (λ v. operation_turn o v (reckoning arrays b) line scalars go)
       (λ goes v. absurd (true≢false (sym stops ∙ goes))))
       (λ (goes : first.trapped ≡ false).
       let whole : walk arrays given (expr.Binary o a b) ≡ record { claims = first.claims ++ second.claims; trapped = second.trapped } = walked ∙ and_then_walk-went_on first second goes in
-      let all = subst (λ (w : Walk). AllClaimed claimed w.claims) whole h in
-      p each.0 (Each-first (λ c. IsTrue (claimed c.word c.write)) first.claims second.claims all) line (λ v. operation_turn o v (reckoning arrays b) line scalars go)
+      let all = subst (λ (w : Walk). AllClaimed claims w.claims) whole h in
+      p each.0 (Each-first (λ c. IsTrue (has claims c.word c.write)) first.claims second.claims all) line (λ v. operation_turn o v (reckoning arrays b) line scalars go)
       (λ _ left. subst IsHeld (sym (turn-arithmetic o both.0 left (reckoning arrays b) line scalars go))
-      (q each.1 (Each-second (λ c. IsTrue (claimed c.word c.write)) first.claims second.claims all) line (λ v. done_with line (apply o left v) go)
+      (q each.1 (Each-second (λ c. IsTrue (has claims c.word c.write)) first.claims second.claims all) line (λ v. done_with line (apply o left v) go)
       (λ went right. let result = arithmetic o both.0 left right in
       subst (λ (r : Result ℤ Cause). IsHeld (done_with line r go)) (sym result.1) (next (ap (λ (w : Walk). w.trapped) whole ∙ went) result.0)))))
       (cases_Bool first.trapped))
@@ -159,12 +160,12 @@ module _ (array size outer inner : ℕ) (x y : ℤ) (scalars : List ℤ) (claime
       value-held_binary
       (λ t a b p q r is. absurd (false≢true (sym (allowed-choice array outer inner true t a b) ∙ is)))
 
-  written-held : (line : Line) (go : Turn) (v : ℤ) (o : Option (ℕ × ℕ)) → AllClaimed claimed (claimed_at true o).claims → IsHeld go → IsHeld (inside line o (λ array n. writing line None array n v go))
+  written-held : (line : Line) (go : Turn) (v : ℤ) (o : Option (ℕ × ℕ)) → AllClaimed claims (claimed_at true o).claims → IsHeld go → IsHeld (inside line o (λ array n. writing line None array n v go))
   written-held line go v None h rest = tt
   written-held line go v (Some p) h rest = (h.0, rest)
 
   -- the turn of the write
-  pub write-held : (place e : Expr) → IsTrue (is_allowed array outer inner place false) → IsTrue (is_allowed array outer inner e true) → AllClaimed claimed (walk_of_write arrays given array place e).claims → (line : Line) (go : Turn) → IsHeld go
+  pub write-held : (place e : Expr) → IsTrue (is_allowed array outer inner place false) → IsTrue (is_allowed array outer inner e true) → AllClaimed claims (walk_of_write arrays given array place e).claims → (line : Line) (go : Turn) → IsHeld go
       → IsHeld (reckoning arrays place line scalars (λ at. reckoning arrays e line scalars (λ v. inside line (located arrays array at) (λ array n. writing line None array n v go))))
   write-held place e place_is value_is h line go rest =
       let plain = plain-held place place_is in
@@ -174,10 +175,10 @@ module _ (array size outer inner : ℕ) (x y : ℤ) (scalars : List ℤ) (claime
       plain.2 line (λ at. reckoning arrays e line scalars (λ v. inside line (located arrays array at) (λ array n. writing line None array n v go)))
       (⊎_elim
       (λ (stops : reads.trapped ≡ true).
-      value-held e value_is (subst (λ (w : Walk). AllClaimed claimed w.claims) (walked ∙ and_then_walk-trapped reads write stops) h) line (λ v. inside line (located arrays array plain.0) (λ array n. writing line None array n v go))
+      value-held e value_is (subst (λ (w : Walk). AllClaimed claims w.claims) (walked ∙ and_then_walk-trapped reads write stops) h) line (λ v. inside line (located arrays array plain.0) (λ array n. writing line None array n v go))
       (λ goes v. absurd (true≢false (sym stops ∙ goes))))
       (λ (goes : reads.trapped ≡ false).
-      let all = subst (λ (w : Walk). AllClaimed claimed w.claims) (walked ∙ and_then_walk-went_on reads write goes) h in
-      value-held e value_is (Each-first (λ c. IsTrue (claimed c.word c.write)) reads.claims write.claims all) line (λ v. inside line (located arrays array plain.0) (λ array n. writing line None array n v go))
-      (λ _ v. written-held line go v (located arrays array plain.0) (Each-second (λ c. IsTrue (claimed c.word c.write)) reads.claims write.claims all) rest))
+      let all = subst (λ (w : Walk). AllClaimed claims w.claims) (walked ∙ and_then_walk-went_on reads write goes) h in
+      value-held e value_is (Each-first (λ c. IsTrue (has claims c.word c.write)) reads.claims write.claims all) line (λ v. inside line (located arrays array plain.0) (λ array n. writing line None array n v go))
+      (λ _ v. written-held line go v (located arrays array plain.0) (Each-second (λ c. IsTrue (has claims c.word c.write)) reads.claims write.claims all) rest))
       (cases_Bool reads.trapped))

@@ -1,6 +1,7 @@
 -- Claims: which words an iteration may read and which it may write. Words are numbered from 0 over all arrays of a
 -- program, in order of declaration.
-use Rattle.std.specs.Prelude.{◌≡◌, ℕ, ◌≤◌, ◌<◌, Bool, true, false, ◌&&◌, ◌||◌, IsTrue, Option, Some, None, List, [], ◌∷◌, length, replicate, slice_index_or, slice_set}
+use Rattle.std.specs.Prelude.{◌≡◌, ℕ, zero, suc, ◌≤◌, ◌<◌, ◌↔◌, Bool, true, false, ◌&&◌, ◌||◌, IsTrue, Option, Some, None, List, [], ◌∷◌, length, replicate, slice_index_or, slice_set}
+use Rattle.settle_law.specs.Claims as law
 
 -- one claim: a word, and whether it is claimed for writing or for reading
 pub record Claim : Type 0 where
@@ -48,13 +49,36 @@ abbrev pub IsNext : (ℕ → Bool) → ℕ → Option ℕ → Type 0
 IsNext passes from None = (k : ℕ) → from ≤ k → passes k ≡ false
 IsNext passes from (Some n) = (from ≤ n) × IsTrue (passes n) × ((k : ℕ) → from ≤ k → k < n → passes k ≡ false)
 
--- a word at which two sets of claims conflict: both claim it, and one of them for writing
-abbrev pub clash_at : Claimed → Claimed → ℕ → Bool
-clash_at first second word = (has first word true && is_claimed second word) || (is_claimed first word && has second word true)
+-- the claims of a set by the word, as the laws have them
+abbrev pub by_word : Claimed → law.Claims
+by_word claims = record { read = is_set claims.reads; written = is_set claims.writes }
 
 -- two sets of claims conflict
 abbrev pub Clash : Claimed → Claimed → Type 0
-Clash first second = (word : ℕ) × IsTrue (clash_at first second word)
+Clash first second = law.Clash (by_word first) (by_word second)
+
+-- The test for it: whether both claim a word, and one of them for writing, at one of the words of the first.
+abbrev pub clash_at : Claimed → Claimed → ℕ → Bool
+clash_at first second word = (has first word true && is_claimed second word) || (is_claimed first word && has second word true)
+
+abbrev pub clash_below : Claimed → Claimed → ℕ → Bool
+clash_below first second zero = false
+clash_below first second (suc n) = clash_below first second n || clash_at first second n
+
+abbrev pub clash : Claimed → Claimed → Bool
+clash first second = clash_below first second (words_of first)
+
+-- Whether the claims of iterations j and k conflict, where each iteration has a set of claims.
+unfoldable pub clashes : (ℕ → Claimed) → ℕ → ℕ → Bool
+clashes claims j k = clash (claims k) (claims j)
+
+-- both lists are as long as there are words
+abbrev pub IsEven : Claimed → Type 0
+IsEven claims = length claims.writes ≡ length claims.reads
+
+-- The test tells conflicts.
+abbrev pub TestTellsClash : Type 0
+TestTellsClash = (first second : Claimed) → IsEven first → IsTrue (clash first second) ↔ Clash first second
 
 -- What holds of the flags that are kept: as many for reading as for writing, no more than a program has words, and a
 -- third list that has both.

@@ -11,5 +11,5 @@ mod walk;
 mod word_set;
 
 pub use claim_set::Claims;
-pub use law::claims_hold_turns;
+pub use law::{claims_hold_turns, test_tells_clash};
 pub use walk::claims;

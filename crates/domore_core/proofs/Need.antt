@@ -2,11 +2,18 @@
 use Rattle.std.proofs.Common.{◌≡◌, ℕ, zero, suc, ◌%◌, ◌<◌, ◌≤◌, Bool, true, false, ◌&&◌, if◌then◌else◌, ◌==◌, Option, Some, None, List, [], ◌∷◌, ◌++◌, length, refl, sym, ap, ◌∙◌, inl, inr, ⊎_elim, arith, length-append}
 use Rattle.std.proofs.lemmas.Bool.{eq-eqb, ne_eqb, eqb-true, cases_lt, and_parts, and_from}
 use Rattle.std.proofs.lemmas.Nat.{mod_below}
-use Rattle.domore_core.specs.Waits.{Wait, greatest_clash, need, wait_for, waits_below, waits_of, Clashes, IsGreatest, NeedsAreGreatest}
+use Rattle.domore_core.specs.Waits.{Wait, greatest, need, wait_for, waits_with, waits_of, Clashes, IsGreatest, NeedsAreGreatest}
 use Rattle.domore_core.specs.Invariant.{Each, Covers, IsWaitOf}
 use Rattle.domore_core.proofs.Seats.{each_append}
 
 module _ (clashes : ℕ → ℕ → Bool) (width k : ℕ) where
+  -- the claims of an iteration of a worker clash with those of k
+  abbrev passes : ℕ → ℕ → Bool
+  passes u j = (j % width == u) && clashes j k
+
+  abbrev on_workers : ℕ → List Wait
+  on_workers n = waits_with (need clashes width k) (k % width) n
+
   -- a number that is found is of the worker, and below n
   abbrev pub IsFound : ℕ → ℕ → Option ℕ → Type 0
   IsFound u n None = Unit {0}
@@ -16,28 +23,28 @@ module _ (clashes : ℕ → ℕ → Bool) (width k : ℕ) where
   found_more u n None f = tt
   found_more u n (Some j) f = let l : j < n = f.0 in (omega arith, f.1, f.2)
 
-  found : (u n : ℕ) → IsFound u n (greatest_clash clashes width k u n)
+  found : (u n : ℕ) → IsFound u n (greatest (passes u) n)
   found u zero = tt
-  found u (suc j) = go ((j % width == u) && clashes j k) refl (found u j)
+  found u (suc j) = go (passes u j) refl (found u j)
     where
-      go : (t : Bool) → ((j % width == u) && clashes j k) ≡ t → IsFound u j (greatest_clash clashes width k u j) → IsFound u (suc j) (if t then Some j else greatest_clash clashes width k u j)
+      go : (t : Bool) → passes u j ≡ t → IsFound u j (greatest (passes u) j) → IsFound u (suc j) (if t then Some j else greatest (passes u) j)
       go true e more = (omega arith, eqb-true _ _ (and_parts _ _ e).0, (and_parts (j % width == u) (clashes j k) e).1)
-      go false e more = found_more u j (greatest_clash clashes width k u j) more
+      go false e more = found_more u j (greatest (passes u) j) more
 
   -- it is the greatest
   abbrev pub IsAtLeast : ℕ → Option ℕ → Type 0
   IsAtLeast i None = ⊥
   IsAtLeast i (Some j) = i ≤ j
 
-  greatest : (u n i : ℕ) → i < n → i % width ≡ u → clashes i k ≡ true → IsAtLeast i (greatest_clash clashes width k u n)
-  greatest u zero i lt own clash = absurd (omega arith)
-  greatest u (suc j) i lt own clash = go ((j % width == u) && clashes j k) refl (λ l. greatest u j i l own clash)
+  at_least : (u n i : ℕ) → i < n → i % width ≡ u → clashes i k ≡ true → IsAtLeast i (greatest (passes u) n)
+  at_least u zero i lt own clash = absurd (omega arith)
+  at_least u (suc j) i lt own clash = go (passes u j) refl (λ l. at_least u j i l own clash)
     where
-      go : (t : Bool) → ((j % width == u) && clashes j k) ≡ t → (i < j → IsAtLeast i (greatest_clash clashes width k u j)) → IsAtLeast i (if t then Some j else greatest_clash clashes width k u j)
+      go : (t : Bool) → passes u j ≡ t → (i < j → IsAtLeast i (greatest (passes u) j)) → IsAtLeast i (if t then Some j else greatest (passes u) j)
       go true e more = omega arith
       go false e more = ⊎_elim more
           (λ ge. let same : i ≡ j = omega arith in
-          let both : ((j % width == u) && clashes j k) ≡ true = and_from _ _ (eq-eqb _ _ (ap (λ x. x % width) (sym same) ∙ own)) (ap (λ x. clashes x k) (sym same) ∙ clash) in
+          let both : passes u j ≡ true = and_from _ _ (eq-eqb _ _ (ap (λ x. x % width) (sym same) ∙ own)) (ap (λ x. clashes x k) (sym same) ∙ clash) in
           absurd (cc))
           (cases_lt i j)
 
@@ -59,13 +66,13 @@ module _ (clashes : ℕ → ℕ → Bool) (width k : ℕ) where
   covers_need u j (Some i) own least = inl (own, least)
 
   on_worker_covers : (u j : ℕ) → j < k → u ≡ j % width → (j % width ≡ k % width → ⊥) → clashes j k ≡ true → Covers width (on_worker u) j
-  on_worker_covers u j lt own other clash = rw (ne_eqb (k % width) u (λ same. other (sym (same ∙ own)))) (covers_need u j (need clashes width k u) own (greatest u k j lt (sym own) clash))
+  on_worker_covers u j lt own other clash = rw (ne_eqb (k % width) u (λ same. other (sym (same ∙ own)))) (covers_need u j (need clashes width k u) own (at_least u k j lt (sym own) clash))
 
-  below_covers : (n j : ℕ) → j < k → j % width < n → (j % width ≡ k % width → ⊥) → clashes j k ≡ true → Covers width (waits_below clashes width k n) j
+  below_covers : (n j : ℕ) → j < k → j % width < n → (j % width ≡ k % width → ⊥) → clashes j k ≡ true → Covers width (on_workers n) j
   below_covers zero j lt below other clash = absurd (omega arith)
   below_covers (suc u) j lt below other clash = ⊎_elim
-      (λ l. covers_left (waits_below clashes width k u) (on_worker u) j (below_covers u j lt l other clash))
-      (λ ge. covers_right (waits_below clashes width k u) (on_worker u) j (on_worker_covers u j lt (omega arith) other clash))
+      (λ l. covers_left (on_workers u) (on_worker u) j (below_covers u j lt l other clash))
+      (λ ge. covers_right (on_workers u) (on_worker u) j (on_worker_covers u j lt (omega arith) other clash))
       (cases_lt (j % width) u)
 
   need_waits : (u : ℕ) (o : Option ℕ) → IsFound u k o → Each (IsWaitOf width k) (wait_for u o)
@@ -79,9 +86,9 @@ module _ (clashes : ℕ → ℕ → Bool) (width k : ℕ) where
       go true = tt
       go false = need_waits u (need clashes width k u) (found u k)
 
-  below_waits : (n : ℕ) → Each (IsWaitOf width k) (waits_below clashes width k n)
+  below_waits : (n : ℕ) → Each (IsWaitOf width k) (on_workers n)
   below_waits zero = tt
-  below_waits (suc u) = each_append (IsWaitOf width k) (waits_below clashes width k u) (on_worker u) (below_waits u) (on_worker_waits u)
+  below_waits (suc u) = each_append (IsWaitOf width k) (on_workers u) (on_worker u) (below_waits u) (on_worker_waits u)
 
   need_few : (u : ℕ) (o : Option ℕ) → length (wait_for u o) ≤ 1
   need_few u None = omega arith
@@ -94,9 +101,9 @@ module _ (clashes : ℕ → ℕ → Bool) (width k : ℕ) where
       go true = omega arith
       go false = need_few u (need clashes width k u)
 
-  below_few : (n : ℕ) → length (waits_below clashes width k n) ≤ n
+  below_few : (n : ℕ) → length (on_workers n) ≤ n
   below_few zero = omega arith
-  below_few (suc u) = rw (length-append (waits_below clashes width k u) (on_worker u)) (let a : length (waits_below clashes width k u) ≤ u = below_few u in let b : length (on_worker u) ≤ 1 = on_worker_few u in omega arith)
+  below_few (suc u) = rw (length-append (on_workers u) (on_worker u)) (let a : length (on_workers u) ≤ u = below_few u in let b : length (on_worker u) ≤ 1 = on_worker_few u in omega arith)
 
 -- each wait is for a lower iteration of its worker
 pub waits_are : (clashes : ℕ → ℕ → Bool) (width k : ℕ) → Each (IsWaitOf width k) (waits_of clashes width k)
@@ -112,7 +119,7 @@ waits_few clashes width k = below_few clashes width k width
 
 -- what is needed is the greatest
 pub needs_are_greatest : NeedsAreGreatest
-needs_are_greatest clashes width k u = go (need clashes width k u) (found clashes width k u k) (λ i c. greatest clashes width k u k i c.lower c.own c.clash)
+needs_are_greatest clashes width k u = go (need clashes width k u) (found clashes width k u k) (λ i c. at_least clashes width k u k i c.lower c.own c.clash)
   where
     go : (o : Option ℕ) → IsFound clashes width k u k o → ((i : ℕ) → Clashes clashes width k u i → IsAtLeast clashes width k i o) → IsGreatest clashes width k u o
     go None f least = least

@@ -7,27 +7,27 @@ pub record Wait : Type 0 where
   pub worker : ℕ
   pub number : ℕ
 
--- the greatest number below n, of worker u, whose claims clash with those of k
-abbrev pub greatest_clash : (ℕ → ℕ → Bool) → ℕ → ℕ → ℕ → ℕ → Option ℕ
-greatest_clash clashes width k u zero = None
-greatest_clash clashes width k u (suc j) = if (j % width == u) && clashes j k then Some j else greatest_clash clashes width k u j
+-- the greatest number below n that passes a test
+abbrev pub greatest : (ℕ → Bool) → ℕ → Option ℕ
+greatest passes zero = None
+greatest passes (suc n) = if passes n then Some n else greatest passes n
 
 -- what iteration k needs of worker u: the greatest lower iteration of u whose claims clash with those of k
 abbrev pub need : (ℕ → ℕ → Bool) → ℕ → ℕ → ℕ → Option ℕ
-need clashes width k u = greatest_clash clashes width k u k
+need clashes width k u = greatest (λ j. (j % width == u) && clashes j k) k
 
 abbrev pub wait_for : ℕ → Option ℕ → List Wait
 wait_for u None = []
 wait_for u (Some j) = record { worker = u; number = j } ∷ []
 
--- the waits of iteration k on the workers below n, in their order; it waits for none of its own worker
-abbrev pub waits_below : (ℕ → ℕ → Bool) → ℕ → ℕ → ℕ → List Wait
-waits_below clashes width k zero = []
-waits_below clashes width k (suc u) = waits_below clashes width k u ++ (if k % width == u then [] else wait_for u (need clashes width k u))
+-- waits for what is needed of the workers below n but one, in their order
+abbrev pub waits_with : (ℕ → Option ℕ) → (own n : ℕ) → List Wait
+waits_with need own zero = []
+waits_with need own (suc u) = waits_with need own u ++ (if own == u then [] else wait_for u (need u))
 
--- the waits of iteration k
+-- the waits of iteration k; it waits for none of its own worker
 abbrev pub waits_of : (ℕ → ℕ → Bool) → ℕ → ℕ → List Wait
-waits_of clashes width k = waits_below clashes width k width
+waits_of clashes width k = waits_with (need clashes width k) (k % width) width
 
 -- Iterations of worker u below k whose claims clash with those of k
 pub record Clashes (clashes : ℕ → ℕ → Bool) (width k u j : ℕ) : Type 0 where

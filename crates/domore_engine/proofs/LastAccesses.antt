@@ -1,17 +1,10 @@
 -- The last accesses give the waits of the next iteration.
-use Rattle.std.proofs.Common.{◌≡◌, ℕ, zero, suc, ◌+◌, ◌*◌, ◌%◌, ◌≤◌, ◌<◌, max, Bool, true, false, ◌&&◌, ◌||◌, ◌==◌, if◌then◌else◌, Option, Some, None, List, [], ◌++◌, slice_index_or, refl, sym, ap, ◌∙◌, subst, arith, ⊎_elim}
-use Rattle.std.proofs.lemmas.Bool.{cases_Bool, and_parts, and_right, or_cases, or_left, or_right, eqb-true, eqb-false, cond-false, true≢false}
-use Rattle.std.proofs.lemmas.List.{length-replicate}
-use Rattle.nest_syntax.specs.declared.tree.Program.{Program}
-use Rattle.nest_syntax.specs.FirstForm.{IsKept}
-use Rattle.addr_slice.specs.Claims.{Claim, Claimed, has, is_claimed, words_of, no_claims, with_claims}
-use Rattle.domore_core.specs.Waits.{Wait, wait_for, greatest_clash, waits_below}
-use Rattle.first_tasks.specs.Form.{first_of}
-use Rattle.first_tasks.specs.Claims.{clashes, claims_numbered}
-use Rattle.addr_slice.proofs.Walks.{words_of-with_claims}
-use Rattle.first_tasks.proofs.Claimed.{clash_inverse, clash_by_words}
+use Rattle.std.proofs.Common.{◌≡◌, ℕ, zero, suc, ◌+◌, ◌*◌, ◌%◌, ◌≤◌, ◌<◌, max, Bool, true, false, ◌&&◌, ◌||◌, ◌==◌, if◌then◌else◌, Option, Some, None, List, [], ◌++◌, slice_index_or, refl, sym, ap, ◌∙◌, arith}
+use Rattle.std.proofs.lemmas.Bool.{and_right, cond-false}
+use Rattle.addr_slice.specs.Claims.{Claimed, has, is_set, words_of, clash_below, clashes}
+use Rattle.domore_core.specs.Waits.{Wait, wait_for, greatest, need, waits_with, waits_of}
 use Rattle.domore_engine.specs.declared.shadow.Shadow.{Shadow}
-use Rattle.domore_engine.specs.Shadows.{greatest, claims_word, IsNoted, later, last_below, waits_with}
+use Rattle.domore_engine.specs.Shadows.{IsNoted, later, last_below}
 
 -- greatest numbers
 greatest-less : (P : ℕ → Bool) (n a : ℕ) → greatest P n ≡ Some a → a < n
@@ -51,147 +44,58 @@ greatest-none : (P : ℕ → Bool) (n : ℕ) → ((j : ℕ) → P j ≡ false) �
 greatest-none P zero none = refl
 greatest-none P (suc n) none = cond-false (P n) _ _ (none n) ∙ greatest-none P n none
 
-clash-greatest : (program : Program) (width k u n : ℕ) → greatest_clash (clashes program) width k u n ≡ greatest (λ j. (j % width == u) && clashes program j k) n
-clash-greatest program width k u zero = refl
-clash-greatest program width k u (suc n) = ap (λ o. if (n % width == u) && clashes program n k then Some n else o) (clash-greatest program width k u n)
-
 -- booleans
-same_truth : (b c : Bool) → (b ≡ true → c ≡ true) → (c ≡ true → b ≡ true) → b ≡ c
-same_truth true c to from = sym (to refl)
-same_truth false true to from = from refl
-same_truth false false to from = refl
+out-three : (own a r w : Bool) → ((own && a) || ((own && w) || (own && r))) ≡ (own && (a || ((r || w) || w)))
+out-three false a r w = refl
+out-three true true r w = refl
+out-three true false true true = refl
+out-three true false true false = refl
+out-three true false false true = refl
+out-three true false false false = refl
 
-out-two : (own a b : Bool) → ((own && a) || (own && b)) ≡ (own && (a || b))
-out-two true a b = refl
-out-two false a b = refl
+out-two : (own a w : Bool) → ((own && a) || (own && w)) ≡ (own && (a || w))
+out-two true a w = refl
+out-two false a w = refl
 
-out-three : (own a b c : Bool) → ((own && a) || ((own && b) || (own && c))) ≡ (own && (a || (b || c)))
-out-three true a b c = refl
-out-three false a b c = refl
-
-or-nothing : (a : Bool) → (a || false) ≡ a
+or-nothing : (a : Bool) → a ≡ (a || false)
 or-nothing true = refl
 or-nothing false = refl
 
-module _ (program : Program) (kept : IsKept (first_of program)) (width k : ℕ) (shadow : Shadow) (noted : IsNoted program width k shadow) where
-  abbrev own_claims : Claimed
-  own_claims = with_claims (no_claims (first_of program).length) (claims_numbered program k)
+module _ (k : ℕ) where
+  union : (P Q : ℕ → Bool) (a b : Option ℕ) → a ≡ greatest P k → b ≡ greatest Q k → later a b ≡ greatest (λ j. P j || Q j) k
+  union P Q a b first second = ap (later a) second ∙ ap (λ o. later o (greatest Q k)) first ∙ later-greatest P Q k
 
-  -- iteration j clashes with k at this word, and at one below n
-  abbrev meets_by : Bool → Bool → ℕ → ℕ → Bool
-  meets_by write claimed w j = if claimed then (if write then claims_word program j w true || claims_word program j w false else claims_word program j w true) else false
+  -- one word more, which is claimed for reading or for writing
+  with_word : (mine met reads writes : ℕ → Bool) (before read write : Option ℕ) → before ≡ greatest (λ j. mine j && met j) k → read ≡ greatest (λ j. mine j && reads j) k → write ≡ greatest (λ j. mine j && writes j) k
+      → (r w : Bool) → (if r || w then later before (if w then later write read else write) else before) ≡ greatest (λ j. mine j && (met j || ((w && (reads j || writes j)) || ((r || w) && writes j)))) k
+  with_word mine met reads writes before read write b r w true true = union _ _ before _ b (union _ _ write read w r) ∙ greatest-ext _ _ k (λ j. out-three (mine j) (met j) (reads j) (writes j))
+  with_word mine met reads writes before read write b r w false true = union _ _ before _ b (union _ _ write read w r) ∙ greatest-ext _ _ k (λ j. out-three (mine j) (met j) (reads j) (writes j))
+  with_word mine met reads writes before read write b r w true false = union _ _ before write b w ∙ greatest-ext _ _ k (λ j. out-two (mine j) (met j) (writes j))
+  with_word mine met reads writes before read write b r w false false = b ∙ greatest-ext _ _ k (λ j. ap (λ m. mine j && m) (or-nothing (met j)))
 
-  abbrev meets : ℕ → ℕ → Bool
-  meets w j = meets_by (has own_claims w true) (is_claimed own_claims w) w j
+module _ (claims : ℕ → Claimed) (words width k : ℕ) (shadow : Shadow) (noted : IsNoted claims words width k shadow) (u : ℕ) (own : u < width) where
+  abbrev mine : ℕ → Bool
+  mine j = j % width == u
 
-  abbrev meets_below : ℕ → ℕ → Bool
-  meets_below zero j = false
-  meets_below (suc w) j = meets_below w j || meets w j
+  -- word by word
+  last-is : (n : ℕ) → n ≤ words → last_below shadow u n ≡ greatest (λ j. mine j && clash_below shadow.claims (claims j) n) k
+  last-is zero le = sym (greatest-none (λ j. mine j && false) k (λ j. and_right (mine j) false refl))
+  last-is (suc word) le = with_word k mine (λ j. clash_below shadow.claims (claims j) word) (λ j. has (claims j) word false) (λ j. has (claims j) word true) _ _ _ (last-is word (omega arith))
+      (ap (λ n. slice_index_or shadow.reads.items (word * n + u) None) noted.width_is ∙ noted.reads word u (omega arith) own)
+      (ap (λ n. slice_index_or shadow.writes.items (word * n + u) None) noted.width_is ∙ noted.writes word u (omega arith) own)
+      (is_set shadow.claims.reads word) (is_set shadow.claims.writes word)
 
-  module _ (is : shadow.claims ≡ own_claims) (u : ℕ) (own : u < width) where
-    abbrev mine : ℕ → Bool
-    mine j = j % width == u
+  need-is : shadow.claims ≡ claims k → last_below shadow u (words_of shadow.claims) ≡ need (clashes claims) width k u
+  unfolding clashes
+  need-is there = last-is (words_of shadow.claims) (omega (arith, noted.room)) ∙ ap (λ (c : Claimed). greatest (λ j. mine j && clash_below c (claims j) (words_of c)) k) there
 
-    abbrev at : ℕ → ℕ
-    at w = w * shadow.workers + u
+waits-alike : (need other : ℕ → Option ℕ) (own n : ℕ) → ((u : ℕ) → u < n → need u ≡ other u) → waits_with need own n ≡ waits_with other own n
+waits-alike need other own zero same = refl
+waits-alike need other own (suc u) same =
+    ap (λ (ws : List Wait). ws ++ (if own == u then [] else wait_for u (need u))) (waits-alike need other own u (λ v less. same v (omega arith)))
+    ∙ ap (λ o. waits_with other own u ++ (if own == u then [] else wait_for u o)) (same u (omega arith))
 
-    write-is : (w : ℕ) → w < (first_of program).length → slice_index_or shadow.writes.items (at w) None ≡ greatest (λ j. mine j && claims_word program j w true) k
-    write-is w below = ap (λ n. slice_index_or shadow.writes.items (w * n + u) None) noted.width_is ∙ noted.writes w u below own
-
-    read-is : (w : ℕ) → w < (first_of program).length → slice_index_or shadow.reads.items (at w) None ≡ greatest (λ j. mine j && claims_word program j w false) k
-    read-is w below = ap (λ n. slice_index_or shadow.reads.items (w * n + u) None) noted.width_is ∙ noted.reads w u below own
-
-    clash-is : (w : ℕ) (write : Bool) (before : Option ℕ) (met : ℕ → Bool) → w < (first_of program).length → before ≡ greatest (λ j. mine j && met j) k
-        → later before (if write then later (slice_index_or shadow.writes.items (at w) None) (slice_index_or shadow.reads.items (at w) None) else slice_index_or shadow.writes.items (at w) None)
-        ≡ greatest (λ j. mine j && (met j || meets_by write true w j)) k
-    clash-is w true before met below e =
-        ap (λ o. later before (later o (slice_index_or shadow.reads.items (at w) None))) (write-is w below)
-        ∙ ap (λ o. later before (later (greatest (λ j. mine j && claims_word program j w true) k) o)) (read-is w below)
-        ∙ ap (λ o. later o (later (greatest (λ j. mine j && claims_word program j w true) k) (greatest (λ j. mine j && claims_word program j w false) k))) e
-        ∙ ap (later (greatest (λ j. mine j && met j) k)) (later-greatest (λ j. mine j && claims_word program j w true) (λ j. mine j && claims_word program j w false) k)
-        ∙ later-greatest (λ j. mine j && met j) (λ j. (mine j && claims_word program j w true) || (mine j && claims_word program j w false)) k
-        ∙ greatest-ext _ _ k (λ j. out-three (mine j) (met j) (claims_word program j w true) (claims_word program j w false))
-    clash-is w false before met below e =
-        ap (later before) (write-is w below)
-        ∙ ap (λ o. later o (greatest (λ j. mine j && claims_word program j w true) k)) e
-        ∙ later-greatest (λ j. mine j && met j) (λ j. mine j && claims_word program j w true) k
-        ∙ greatest-ext _ _ k (λ j. out-two (mine j) (met j) (claims_word program j w true))
-
-    -- word by word
-    last-is : (n : ℕ) → n ≤ (first_of program).length → last_below shadow u n ≡ greatest (λ j. mine j && meets_below n j) k
-    last-is zero le = sym (greatest-none (λ j. mine j && false) k (λ j. and_right (mine j) false refl))
-    last-is (suc w) le =
-        let rest = last-is w (omega arith) in
-        ap (λ (c : Claimed). if is_claimed c w then later (last_below shadow u w) (if has c w true then later (slice_index_or shadow.writes.items (at w) None) (slice_index_or shadow.reads.items (at w) None) else slice_index_or shadow.writes.items (at w) None) else last_below shadow u w) is
-        ∙ by_claim (is_claimed own_claims w) rest
-      where
-        by_claim : (claimed : Bool) → last_below shadow u w ≡ greatest (λ j. mine j && meets_below w j) k
-            → (if claimed then later (last_below shadow u w) (if has own_claims w true then later (slice_index_or shadow.writes.items (at w) None) (slice_index_or shadow.reads.items (at w) None) else slice_index_or shadow.writes.items (at w) None) else last_below shadow u w)
-            ≡ greatest (λ j. mine j && (meets_below w j || meets_by (has own_claims w true) claimed w j)) k
-        by_claim true rest = clash-is w (has own_claims w true) (last_below shadow u w) (meets_below w) (omega arith) rest
-        by_claim false rest = rest ∙ greatest-ext (λ j. mine j && meets_below w j) (λ j. mine j && (meets_below w j || false)) k (λ j. ap (λ b. mine j && b) (sym (or-nothing (meets_below w j))))
-
-  -- two iterations clash where they meet at a word
-  clash_of_meeting : (w j : ℕ) (write claimed : Bool) → has own_claims w true ≡ write → is_claimed own_claims w ≡ claimed → meets_by write claimed w j ≡ true → clashes program j k ≡ true
-  clash_of_meeting w j true true h c m = ⊎_elim
-      (λ (x : claims_word program j w true ≡ true). clash_by_words program j k w true true x h refl)
-      (λ (x : claims_word program j w false ≡ true). clash_by_words program j k w false true x h refl)
-      (or_cases (claims_word program j w true) (claims_word program j w false) m)
-  clash_of_meeting w j false true h c m = ⊎_elim
-      (λ (x : has own_claims w false ≡ true). clash_by_words program j k w true false m x refl)
-      (λ (x : has own_claims w true ≡ true). clash_by_words program j k w true true m x refl)
-      (or_cases (has own_claims w false) (has own_claims w true) c)
-  clash_of_meeting w j true false h c m = absurd (true≢false (sym m))
-  clash_of_meeting w j false false h c m = absurd (true≢false (sym m))
-
-  clash_of_meetings : (n j : ℕ) → meets_below n j ≡ true → clashes program j k ≡ true
-  clash_of_meetings zero j m = absurd (true≢false (sym m))
-  clash_of_meetings (suc w) j m = ⊎_elim (clash_of_meetings w j) (clash_of_meeting w j (has own_claims w true) (is_claimed own_claims w) refl refl) (or_cases (meets_below w j) (meets w j) m)
-
-  meetings : (n w j : ℕ) → w < n → meets w j ≡ true → meets_below n j ≡ true
-  meetings zero w j below m = absurd (omega arith)
-  meetings (suc n) w j below m = ⊎_elim
-      (λ (here : (w == n) ≡ true). or_right (meets_below n j) (meets n j) (subst (λ x. meets x j ≡ true) (eqb-true w n here) m))
-      (λ (other : (w == n) ≡ false). let less : w < n = at_most w n (eqb-false w n other) below in or_left (meets_below n j) (meets n j) (meetings n w j less m))
-      (cases_Bool (w == n))
-    where
-      at_most : (w n : ℕ) → (w ≡ n → ⊥) → w < suc n → w < n
-      at_most w n ne le = omega arith
-
-  meets_known : (w j : ℕ) (write claimed : Bool) → has own_claims w true ≡ write → is_claimed own_claims w ≡ claimed → meets_by write claimed w j ≡ true → meets w j ≡ true
-  meets_known w j write claimed h c m = ap (λ b. meets_by b (is_claimed own_claims w) w j) h ∙ ap (λ b. meets_by write b w j) c ∙ m
-
-  meets_of_claims : (w j : ℕ) (v u : Bool) → claims_word program j w v ≡ true → has own_claims w u ≡ true → (v || u) ≡ true → meets w j ≡ true
-  meets_of_claims w j true true x h e = meets_known w j true true h (or_right _ _ h) (or_left _ _ x)
-  meets_of_claims w j false true x h e = meets_known w j true true h (or_right _ _ h) (or_right _ _ x)
-  meets_of_claims w j true false x h e = ⊎_elim
-      (λ (writes : has own_claims w true ≡ true). meets_known w j true true writes (or_left _ _ h) (or_left _ _ x))
-      (λ (not_written : has own_claims w true ≡ false). meets_known w j false true not_written (or_left _ _ h) x)
-      (cases_Bool (has own_claims w true))
-  meets_of_claims w j false false x h e = absurd (true≢false (sym e))
-
-  meetings_of_clash : (j : ℕ) → clashes program j k ≡ true → meets_below (first_of program).length j ≡ true
-  meetings_of_clash j is =
-      let there = clash_inverse program kept j k is in
-      let parts = and_parts (there.first.word == there.second.word) (there.first.write || there.second.write) there.collides in
-      let same : there.first.word ≡ there.second.word = eqb-true there.first.word there.second.word parts.0 in
-      meetings (first_of program).length there.second.word j there.inside
-      (meets_of_claims there.second.word j there.first.write there.second.write (subst (λ w. claims_word program j w there.first.write ≡ true) same there.of_first) there.of_second parts.1)
-
-  pub need-is : shadow.claims ≡ own_claims → (u : ℕ) → u < width → last_below shadow u (first_of program).length ≡ greatest_clash (clashes program) width k u k
-  need-is is u own =
-      last-is is u own (first_of program).length (omega arith)
-      ∙ greatest-ext (λ j. (j % width == u) && meets_below (first_of program).length j) (λ j. (j % width == u) && clashes program j k) k
-      (λ j. ap (λ b. (j % width == u) && b) (same_truth (meets_below (first_of program).length j) (clashes program j k) (clash_of_meetings (first_of program).length j) (meetings_of_clash j)))
-      ∙ sym (clash-greatest program width k u k)
-
--- waits with the same needs are the same
-pub waits_same : (clash : ℕ → ℕ → Bool) (width k : ℕ) (need : ℕ → Option ℕ) (n : ℕ) → ((u : ℕ) → u < n → need u ≡ greatest_clash clash width k u k) → waits_with need (k % width) n ≡ waits_below clash width k n
-waits_same clash width k need zero same = refl
-waits_same clash width k need (suc u) same =
-    ap (λ (ws : List Wait). ws ++ (if k % width == u then [] else wait_for u (need u))) (waits_same clash width k need u (λ v less. same v (omega arith)))
-    ∙ ap (λ o. waits_below clash width k u ++ (if k % width == u then [] else wait_for u o)) (same u (omega arith))
-
--- how many words there is room for
-pub words_claimed : (claims : Claimed) (list : List Claim) (n : ℕ) → claims ≡ with_claims (no_claims n) list → words_of claims ≡ n
-words_claimed claims list n is = ap words_of is ∙ words_of-with_claims list (no_claims n) ∙ length-replicate n false
+-- The waits found from the table are those of the definition.
+pub waits-are : (claims : ℕ → Claimed) (words width k : ℕ) (shadow : Shadow) → IsNoted claims words width k shadow → shadow.claims ≡ claims k
+    → waits_with (λ u. last_below shadow u (words_of shadow.claims)) (k % width) width ≡ waits_of (clashes claims) width k
+waits-are claims words width k shadow noted there = waits-alike _ (need (clashes claims) width k) (k % width) width (λ u own. need-is claims words width k shadow noted u own there)

@@ -6,3 +6,4 @@ pub mod Stepping
 pub mod LastAccesses
 pub mod Updating
 pub mod Histories
+pub mod Handing

@@ -21,6 +21,7 @@ use Rattle.domore_core.proofs.Guards.{Guard}
 use Rattle.first_tasks.specs.declared.position.Iteration.{Iteration}
 use Rattle.first_tasks.specs.declared.position.Position.{Position}
 use Rattle.first_tasks.specs.Form.{first_of, first_form, count_of}
+use Rattle.first_tasks.specs.Claims.{claims_numbered}
 use Rattle.first_tasks.specs.Pieces.{Piece}
 use Rattle.first_tasks.specs.Setups.{setup}
 use Rattle.first_tasks.proofs.Forms.{form_of, first-of_form}
@@ -78,7 +79,7 @@ sound_still p width old new sound same stays = record {
   seats = stays.seats ∙ sound.seats;
   sizes = same.sizes ∙ sound.sizes;
   placed = subst (λ c. IsPlaced (first_of p) c new.next new.tally.facts) (sym stays.cursor) (subst (λ n. IsPlaced (first_of p) old.cursor n new.tally.facts) (sym stays.next) (subst (IsPlaced (first_of p) old.cursor old.next) (sym stays.facts) sound.placed));
-  noted = subst (λ n. IsNoted p width n new.shadow) (sym stays.next) (subst (IsNoted p width old.next) (sym same.shadow) sound.noted);
+  noted = subst (λ n. IsNoted (claims_numbered p) (first_of p).length width n new.shadow) (sym stays.next) (subst (IsNoted (claims_numbered p) (first_of p).length width old.next) (sym same.shadow) sound.noted);
 }
 
 -- the engine behind a step

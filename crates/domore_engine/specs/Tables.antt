@@ -9,6 +9,7 @@ use Rattle.first_tasks.specs.declared.position.Iteration.{Iteration}
 use Rattle.first_tasks.specs.declared.position.Position.{Position}
 use Rattle.first_tasks.specs.declared.position.Position.TheVariants as position
 use Rattle.first_tasks.specs.Form.{first_of, count_of}
+use Rattle.first_tasks.specs.Claims.{claims_numbered}
 use Rattle.first_tasks.specs.Pieces.{Piece}
 use Rattle.first_tasks.specs.Positions.{passed_at, IsInCourse}
 use Rattle.domore_engine.specs.declared.table.Table.{Table}
@@ -49,7 +50,7 @@ pub record IsSound (program : Program) (width : ℕ) (table : Table) : Type 0 wh
   pub seats : length table.seats.items ≡ width
   pub sizes : table.words.sizes ≡ sizes_of (arrays_of program.decls)
   pub placed : IsPlaced (first_of program) table.cursor table.next table.tally.facts
-  pub noted : IsNoted program width table.next table.shadow
+  pub noted : IsNoted (claims_numbered program) (first_of program).length width table.next table.shadow
 
 -- what only the scheduler changes
 pub record IsSame (old new : Table) : Type 0 where

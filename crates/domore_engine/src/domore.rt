@@ -181,7 +181,7 @@ fn open_table(alloc: Global, job: &Job, options: Options) -> Result<Table, NoMem
         trap: None,
         halted: false,
         tally: Tally::open(options),
-        shadow: Shadow::open(alloc, length, workers)?,
+        shadow: Shadow::open(alloc, &[length], workers)?,
     })
 }
 

@@ -1,55 +1,45 @@
-ghost use Rattle.std.specs.Prelude.{◌≡◌, ◌<◌, ◌≤◌, ◌%◌, ◌*◌, if◌then◌else◌, ℕ, suc, length, IfOk, Some, None, slice_set, slice_index_or};
-ghost use Rattle.nest_syntax.specs.FirstForm.{IsFirstForm};
-ghost use Rattle.domore_core.specs.Waits.{waits_of};
-ghost use Rattle.first_tasks.specs.Form.{first_of, first_form};
-ghost use Rattle.first_tasks.specs.Iterations.{iteration_numbered};
-ghost use Rattle.first_tasks.specs.Claims.{clashes};
-ghost use Rattle.nest_syntax.specs.declared.tree.Program.{Program as Code};
-ghost use Rattle.domore_engine.specs.Shadows.{IsNoted, later, last_clash, last_below, waits_with, IsUpdated};
-ghost use Rattle.addr_slice.specs.Claims.{words_of};
+ghost use Rattle.std.specs.Prelude.{◌≡◌, ◌<◌, ◌≤◌, ◌%◌, ◌*◌, if◌then◌else◌, ℕ, suc, length, sum, IfOk, Some, None, slice_set, slice_index_or};
+ghost use Rattle.word_store.specs.Memory.{most_words};
+ghost use Rattle.addr_slice.specs.Claims.{Claimed, words_of, clashes};
+ghost use Rattle.domore_core.specs.Waits.{waits_of, waits_with};
+ghost use Rattle.domore_engine.specs.Shadows.{IsNoted, later, last_clash, last_below, IsUpdated};
 
 use crate::shadow::Shadow;
-use crate::tasks::claim;
 use crate::wait::Wait;
 use addr_slice::Claims;
 use arrayvec::ArrayVec;
-use first_tasks::Iteration;
-use nest_syntax::{NoMemory, Program};
+use nest_syntax::NoMemory;
 use std::alloc::Global;
 
 impl Shadow {
-    /// Nothing is noted yet, of the words of an array of this length.
-    pub(crate) fn open(alloc: Global, length: u64, workers: u8) -> Result<Shadow, NoMemory>
-        requires words { length ≤ 1048576 }
+    /// Nothing is noted yet, of the words of arrays of these lengths.
+    pub(crate) fn open(alloc: Global, lengths: &[u64], workers: u8) -> Result<Shadow, NoMemory>
+        requires words { sum lengths.now ≤ most_words }
         requires few { workers ≤ 8 }
-        ensures { (program : Code) → (first_of program).length ≡ length → IfOk result (λ made. IsNoted program workers 0 made) }
+        ensures { (claims : ℕ → Claimed) → IfOk result (λ made. IsNoted claims (sum lengths.now) workers 0 made) }
     {
-        let places = length as usize * workers as usize;
+        let claims = Claims::with_room(alloc, lengths)?;
+        let places = claims.words() * workers as usize;
         Ok(Shadow {
-            claims: Claims::with_room(alloc, &[length])?,
+            claims,
             workers,
             reads: vec![in alloc; None; places]?,
             writes: vec![in alloc; None; places]?,
         })
     }
 
-    /// The waits of the next iteration, whose claims are then noted.
-    pub(crate) fn hand_out(
-        &mut self,
-        program: &Program,
-        iteration: Iteration,
-        number: u64,
-    ) -> ArrayVec<Wait, 8>
-        requires form { IsFirstForm program.now }
+    /// The waits of the next iteration, whose claims are there, and which is then noted.
+    pub(crate) fn next_waits(&mut self, number: u64) -> ArrayVec<Wait, 8>
         requires few { self.old.workers ≤ 8 }
         requires some { 0 < self.old.workers }
-        requires next { iteration ≡ iteration_numbered (first_of (first_form program.now)) number }
-        requires noted { IsNoted (first_form program.now) self.old.workers number self.old }
-        ensures waits { result.items ≡ waits_of (clashes (first_form program.now)) self.old.workers number }
-        ensures noted { IsNoted (first_form program.now) self.old.workers (suc number) self.new }
+        requires read_places { length self.old.reads.items ≡ words_of self.old.claims * self.old.workers }
+        requires write_places { length self.old.writes.items ≡ words_of self.old.claims * self.old.workers }
+        ensures waits { (claims : ℕ → Claimed) (words : ℕ) → IsNoted claims words self.old.workers number self.old → self.old.claims ≡ claims number
+            → result.items ≡ waits_of (clashes claims) self.old.workers number }
+        ensures noted { (claims : ℕ → Claimed) (words : ℕ) → IsNoted claims words self.old.workers number self.old → self.old.claims ≡ claims number
+            → IsNoted claims words self.old.workers (suc number) self.new }
         ensures workers { self.new.workers ≡ self.old.workers }
     {
-        claim(program, iteration, &mut self.claims);
         let waits = self.waits(number);
         self.note(number);
         waits

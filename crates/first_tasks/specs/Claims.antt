@@ -1,9 +1,8 @@
--- Whether iterations clash, by their claims.
-use Rattle.std.specs.Prelude.{ℕ, Bool, ◌&&◌, ◌||◌, ◌==◌, List}
-use Rattle.std.specs.List.{list_any}
+-- The claims of the iterations of a program of the first form.
+use Rattle.std.specs.Prelude.{ℕ, List}
 use Rattle.nest_syntax.specs.declared.tree.Program.{Program}
 use Rattle.nest_syntax.specs.Value.{scalar_at}
-use Rattle.addr_slice.specs.Claims.{Claim}
+use Rattle.addr_slice.specs.Claims.{Claim, Claimed, no_claims, with_claims}
 use Rattle.addr_slice.specs.Walk.{claims_of}
 use Rattle.first_tasks.specs.declared.position.Iteration.{Iteration}
 use Rattle.first_tasks.specs.Form.{first_of}
@@ -13,16 +12,6 @@ use Rattle.first_tasks.specs.Iterations.{scalars_in, iteration_numbered}
 unfoldable pub claims_in : Program → Iteration → List Claim
 claims_in program iteration = let first = first_of program in let scalars = scalars_in program iteration in (claims_of first (scalar_at scalars first.outer.name) (scalar_at scalars first.inner.name)).claims
 
-abbrev pub claims_numbered : Program → ℕ → List Claim
-claims_numbered program number = claims_in program (iteration_numbered (first_of program) number)
-
--- two claims of one word, one of them for writing
-abbrev pub collide : Claim → Claim → Bool
-collide claim other = (claim.word == other.word) && (claim.write || other.write)
-
-abbrev pub clash : List Claim → List Claim → Bool
-clash claims others = list_any (λ (claim : Claim). list_any (collide claim) others) claims
-
--- whether the claims of two iterations clash
-unfoldable pub clashes : Program → ℕ → ℕ → Bool
-clashes program j k = clash (claims_numbered program j) (claims_numbered program k)
+-- the claims of the iteration with this number, among the words of the array
+abbrev pub claims_numbered : Program → ℕ → Claimed
+claims_numbered program number = let first = first_of program in with_claims (no_claims first.length) (claims_in program (iteration_numbered first number))

@@ -2,6 +2,7 @@
 use Rattle.std.specs.Prelude.{ℕ, ◌<◌, ℤ, List}
 use Rattle.nest_syntax.specs.declared.tree.Program.{Program}
 use Rattle.nest_syntax.specs.FirstForm.{IsFirstForm}
+use Rattle.addr_slice.specs.Claims.{clashes}
 use Rattle.settle_law.specs.Courses.{nest_of}
 use Rattle.domore_core.specs.Machine.{Setup}
 use Rattle.domore_core.specs.Theorems.{IsSetupFor}
@@ -10,7 +11,7 @@ use Rattle.first_tasks.specs.declared.position.Position.{Position}
 use Rattle.first_tasks.specs.declared.position.Position.TheVariants.{Region}
 use Rattle.first_tasks.specs.Form.{first_of}
 use Rattle.first_tasks.specs.Iterations.{what_in}
-use Rattle.first_tasks.specs.Claims.{clashes}
+use Rattle.first_tasks.specs.Claims.{claims_numbered}
 use Rattle.first_tasks.specs.Positions.{event_at}
 use Rattle.first_tasks.specs.Pieces.{Piece, entry, system_of}
 
@@ -20,7 +21,7 @@ setup program width room = record {
   system = system_of program;
   event = event_at (first_of program);
   entry = entry;
-  clashes = clashes program;
+  clashes = clashes (claims_numbered program);
   width = width;
   room = room;
 }

@@ -9,3 +9,5 @@ pub mod Bodies
 pub mod Few
 pub mod Distinct
 pub mod OneJudgement
+pub mod Writable
+pub mod Inside

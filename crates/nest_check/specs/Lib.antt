@@ -8,3 +8,4 @@ pub mod Tables
 pub mod Noted
 pub mod Broken
 pub mod Answered
+pub mod Inside

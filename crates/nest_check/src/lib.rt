@@ -13,10 +13,12 @@ mod expressions;
 mod first_names;
 mod items;
 mod judge;
+mod law;
 mod parts;
 mod refused;
 mod tables;
 
 pub use checked::Checked;
 pub use checking::{check, one_judgement};
+pub use law::turns_stay_inside;
 pub use refused::CheckRefused;

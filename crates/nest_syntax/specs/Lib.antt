@@ -10,3 +10,4 @@ pub mod Course
 pub mod Outcome
 pub mod Named
 pub mod FirstForm
+pub mod Inside

@@ -16,7 +16,8 @@ use Rattle.settle_law.specs.Cuts.{cut, plain, HoldsFixed}
 use Rattle.settle_law.specs.Law.{accesses, after}
 use Rattle.settle_law.specs.Traces.{Access}
 use Rattle.settle_law.specs.Courses.{Nest, nest_of, events, iteration_at, reached, cut_at, family_of, TrappedIterationIsOutcome}
-use Rattle.settle_law.specs.Reading.{NestKeepsFixed, ReachedIsAfter, AfterIsReached, ProgramIsNest, ProgramAccesses, StaysInside, of_iteration, fixed_in}
+use Rattle.nest_syntax.specs.Inside.{StaysInside}
+use Rattle.settle_law.specs.Reading.{NestKeepsFixed, ReachedIsAfter, AfterIsReached, ProgramIsNest, ProgramAccesses, of_iteration, fixed_in}
 use Rattle.settle_law.proofs.Turns.{HoldsAtEnd, holds_at_end, turn_is, accesses_are, keeps-from_tells, tells-from_inside}
 
 pub well : (ended : Ended) (last : List ℤ) → completed ended ≡ Some last → ended ≡ Completed last

@@ -12,7 +12,8 @@ use Rattle.settle_law.specs.Trees as tree
 use Rattle.settle_law.specs.Cuts.{Cut, cut, plain, pausing, is_full, one_more, CanBeRead, HoldsFixed}
 use Rattle.settle_law.specs.Traces.{Read, Write}
 use Rattle.settle_law.specs.Law.{accesses}
-use Rattle.settle_law.specs.Reading.{number_in, of_iteration, KeepsFixed, TellsFixed, told, is_fixed_word, fixed_in, StaysInside, TurnIsTree, AccessesAreTree, InsideTurnsTell, WithinTurn, WithinTurnIsWithin}
+use Rattle.nest_syntax.specs.Inside.{StaysInside}
+use Rattle.settle_law.specs.Reading.{number_in, of_iteration, KeepsFixed, TellsFixed, told, is_fixed_word, fixed_in, TurnIsTree, AccessesAreTree, InsideTurnsTell, WithinTurn, WithinTurnIsWithin}
 use Rattle.settle_law.specs.Claims.{Claims, Within}
 use Rattle.settle_law.specs.Tasks.{System, Realises}
 use Rattle.settle_law.proofs.Commuting.{other_word}

@@ -1,11 +1,12 @@
 -- The same things in the words of turns: what a turn does on words or on a list of reads, against its plain tree.
-use Rattle.std.specs.Prelude.{◌≡◌, ℕ, ◌<◌, ◌-◌, ℤ, Bool, true, false, if◌then◌else◌, nat_lt, Option, Some, None, IsSome, ◌↔◌, List, [], ◌∷◌, ◌++◌, map, slice_index_or}
+use Rattle.std.specs.Prelude.{◌≡◌, ℕ, ◌<◌, ◌-◌, ℤ, Bool, true, false, if◌then◌else◌, nat_lt, Option, Some, None, IsSome, ◌↔◌, List, [], ◌∷◌, ◌++◌, map}
 use Rattle.std.specs.Option.{option_map}
 use Rattle.nest_syntax.specs.declared.names.Line.{Line}
 use Rattle.nest_syntax.specs.declared.operators.Cause.{Cause}
 use Rattle.nest_syntax.specs.declared.tree.Program.{Program}
 use Rattle.nest_syntax.specs.Arrays.{Array, arrays_of, sizes_of, is_fixed, word_number, word_at}
 use Rattle.nest_syntax.specs.Turn.{Turn, Finished, Trapped, Load, Store, Op, Go}
+use Rattle.nest_syntax.specs.Inside.{StaysInside}
 use Rattle.nest_syntax.specs.Reads.{Reading, Stop, Finishes, Traps, More, on_words, on_reads, accesses_on}
 use Rattle.nest_syntax.specs.Reads as reads
 use Rattle.nest_syntax.specs.Outcome.{after as program_after, ending, iteration_turn, events_of, accesses_of}
@@ -68,15 +69,6 @@ is_fixed_word (a ∷ arrays) w = if nat_lt w a.size then a.fixed else is_fixed_w
 -- the `const` words of a job have their opening values
 abbrev pub fixed_in : List Array → List ℤ → ℕ → Option ℤ
 fixed_in arrays words w = told (is_fixed_word arrays w) (word_at words w)
-
--- each access of the turn is inside its array, and no `const` array is written
-abbrev pub StaysInside : List Array → Turn → Type 0
-StaysInside arrays Finished = Unit {0}
-StaysInside arrays (Trapped cause line) = Unit {0}
-StaysInside arrays (Load array place go) = (place < slice_index_or (sizes_of arrays) array 0) × ((value : ℤ) → StaysInside arrays (go value))
-StaysInside arrays (Store array place value rest) = (place < slice_index_or (sizes_of arrays) array 0) × (is_fixed arrays array ≡ false) × StaysInside arrays rest
-StaysInside arrays (Op rest) = StaysInside arrays rest
-StaysInside arrays (Go rest) = StaysInside arrays rest
 
 -- A turn on the words is the plain tree of its cut turn on the words, in how it ends.
 abbrev pub TurnIsTree : Type 0
