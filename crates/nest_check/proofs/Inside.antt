@@ -22,6 +22,7 @@ use Rattle.nest_syntax.specs.Value.{scalar_at, with_scalar}
 use Rattle.nest_syntax.specs.Turn.{Turn, Finished, Load, Store, Op, Go, Reckoning, Effect, Arm_effect, done_with, inside, operation_turn, reckoning_node, reckoning, assigning, writing, sequence, repeat, looping, choose, effect_node, arm_node, loop_node, effect, loop_effect}
 use Rattle.nest_syntax.specs.Inside.{StaysInside}
 use Rattle.nest_syntax.specs.Named.{decl_named}
+use Rattle.nest_syntax.specs.Locals.{with_zeros, locals_of}
 use Rattle.nest_syntax.specs.Course.{Setting, Item, Tested, Looped, in_order, chosen, item_node, tested_node, looped_node, item_of, tested_of, looped_of, region_of, setting_of, bodies_of}
 use Rattle.nest_syntax.specs.Outcome.{body_at}
 use Rattle.nest_syntax.proofs.Equations.{arm_effect, effect-write}
@@ -30,6 +31,7 @@ use Rattle.nest_scope.specs.declared.occurrences.Level.{Level}
 use Rattle.nest_scope.specs.declared.occurrences.Level.TheVariants as level
 use Rattle.nest_scope.specs.Occurrences.{Scope, Walk, Listing, bound, with_bound, inner, declared_at, variable_at, read_in, block, in_same_scope, stmt_node, in_stmt, in_arm, in_loop, in_decls, in_regions, behind_decls, unbound}
 use Rattle.nest_scope.specs.Occurrences as scope_of
+use Rattle.nest_syntax.proofs.Shapes.{regions_same}
 use Rattle.nest_check.specs.Inside.{TurnsStayInside}
 use Rattle.nest_check.proofs.Writable.{AreKept, kept-first, kept-second, kept-from_lines, bound_written, IsFree, IsWritable, writable-with, declared-no_array, variable-no_array, decls-writable}
 
@@ -326,4 +328,6 @@ turns_stay_inside program named keeps body scalars =
     let regions = in_regions program.regions scope in
     let kept : AreKept (decls ++ regions) = kept-from_lines (decls ++ regions) keeps.declared_once keeps.known keeps.constant in
     let writable = decls-writable program.decls opening (kept-first decls regions kept) (subst (λ n. IsTrue (list_all (decl_named n) program.decls)) (sym (length-replicate (length program.names) binding.Unbound)) named.decls) in
-    body-inside (setting_of program []) (bodies_of program) body (regions-inside (setting_of program []) program.regions scope writable (kept-second decls regions kept)) scalars (λ after. Finished) (λ after. tt)
+    let setting = setting_of program [] in
+    let bodies = subst (BodiesInside setting) (regions_same setting program.regions) (regions-inside setting program.regions scope writable (kept-second decls regions kept)) in
+    body-inside setting (bodies_of program) body bodies (with_zeros (locals_of (body_at (bodies_of program) body)) scalars) (λ after. Finished) (λ after. tt)
