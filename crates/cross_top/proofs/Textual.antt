@@ -23,7 +23,7 @@ use Rattle.cross_top.specs.Told.{told, told_at}
 
 -- what an engine that tells an outcome is told as
 module _ (options : Options) (job : Nest) (e : Engine) (same : e.job ≡ job) where
-  done_with : Nest → Memory → Facts → Answer
+  abbrev done_with : Nest → Memory → Facts → Answer
   done_with j words facts = record { status = status.Done; bytes = array_lines j.program.names words 0 j.program.decls ++ domore_report facts; history = rotation_of options job }
 
   told_as : (outcome : Ending) → Tells (facts_due job options) e outcome → told e (rotation_of options job) ≡ reported options job outcome
