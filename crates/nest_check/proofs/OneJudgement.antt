@@ -17,7 +17,7 @@ one_broken program None (Some (rule, line)) is is' = absurd (is rule line is'.0.
 one_broken program (Some (rule, line)) None is is' = absurd (is' rule line is.0.0)
 one_broken program (Some (rule, line)) (Some (rule', line')) is is' = by (leb_tells rule rule') (leb_tells rule' rule)
   where
-    by : ((leb rule rule' ≡ true) × (rule ≤ rule')) ⊎ ((leb rule rule' ≡ false) × (rule' < rule)) → ((leb rule' rule ≡ true) × (rule' ≤ rule)) ⊎ ((leb rule' rule ≡ false) × (rule < rule')) → Some (rule, line) ≡ Some (rule', line')
+    by : ((leb rule rule' ≡ true) × (rule ≤ rule')) ⊎ ((leb rule rule' ≡ false) × (rule' < rule)) → ((leb rule' rule ≡ true) × (rule' ≤ rule)) ⊎ ((leb rule' rule ≡ false) × (rule < rule')) → (let one : Option (ℕ × Line) = Some (rule, line) in let another : Option (ℕ × Line) = Some (rule', line') in one ≡ another)
     by (inr less) other = absurd (is.1 rule' line' less.1 is'.0.0)
     by (inl most) (inr less) = absurd (is'.1 rule line less.1 is.0.0)
     by (inl most) (inl least) =
@@ -31,7 +31,8 @@ unbroken {lines} none line one = let P : List Line → Type 0 = λ ls. IsOne ls 
 pub none_broken : (program : Program) → KeepsRules program → IsBroken program None
 none_broken program kept =
     let none : Option Line = None in
-    let are : AreLowest (rules_on program) (none ∷ none ∷ none ∷ none ∷ none ∷ none ∷ none ∷ none ∷ none ∷ none ∷ none ∷ none ∷ none ∷ none ∷ []) = (
+    let lines : List (Option Line) = none ∷ none ∷ none ∷ none ∷ none ∷ none ∷ none ∷ none ∷ none ∷ none ∷ none ∷ none ∷ none ∷ none ∷ [] in
+    let are : AreLowest (rules_on program) lines = (
       unbroken kept.few,
       (
         unbroken kept.declared_once,
@@ -53,7 +54,7 @@ none_broken program kept =
         ),
       ),
     ) in
-    broken_is program _ are
+    broken_is program lines are
 
 pub never_both : (program : Program) (rule : ℕ) (line : Line) → IsBroken program (Some (rule, line)) → KeepsRules program → ⊥
 never_both program rule line broken kept = none_broken program kept rule line broken.0.0

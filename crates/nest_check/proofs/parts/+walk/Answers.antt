@@ -27,5 +27,7 @@ pub walk_loop-returns : goal.walk_loop-returns
 walk_loop-returns t c = λ deep counts.
     let l : Loop = c.args.inner.now in
     (rw c.as_slice.ensures at (c.walk_block.ensures (suc deep) (c.saturating_add.ensures ∙ depth_below c.args.depth deep counts)))
+    ∙ ap (λ s. through noted s (all_at (map parts l.body) (suc deep))) c.note_expression-2.ensures
+    ∙ ap (λ s. through noted s (AnExpression l.line l.high ∷ all_at (map parts l.body) (suc deep))) c.note_expression.ensures
     ∙ ap (λ s. through noted s (AnExpression l.line l.low ∷ AnExpression l.line l.high ∷ all_at (map parts l.body) (suc deep))) (c.note_loop.ensures ∙ loop_noted c.args.found.now l.line l.step c.args.depth deep counts)
     ∙ ap (through noted c.args.found.now) (sym (parts_in_loop-is l deep))
