@@ -1,5 +1,8 @@
 -- An input has one answer, as it says one thing.
-use Rattle.std.proofs.Common.{◌≡◌, ℕ, ℤ, Result, Ok, Err, List, sym, subst, ◌∙◌, arith}
+use Rattle.std.proofs.Common.{◌≡◌, ℕ, ℤ, Some, Result, Ok, Err, List, sym, ap, subst, ◌∙◌, arith}
+use Rattle.nest_syntax.specs.Outcome.{ending}
+use Rattle.nest_mean.specs.Nest.{Nest}
+use Rattle.domore_engine.specs.Engine.{Engine, facts_of}
 use Rattle.nest_syntax.specs.declared.tree.Program.{Program}
 use Rattle.word_store.specs.Memory.{Memory}
 use Rattle.nest_input.specs.declared.refused.Refusal.{Refusal}
@@ -8,7 +11,14 @@ use Rattle.cross_top.specs.declared.words.Action.{Action}
 use Rattle.cross_top.specs.declared.words.Action.TheVariants.{Plain, Check, Alone}
 use Rattle.cross_top.specs.declared.words.Call.{Call}
 use Rattle.progress_board.specs.declared.options.Options.{Options}
-use Rattle.cross_top.specs.Answers.{Answer, AnswersPlain, AnswersAlone, runs, no_form, AnswersWords, AnswersData, AnswersProgram, AnswersNest, too_long, a_text, OneAnswer}
+use Rattle.cross_top.specs.Answers.{Answer, reported, rotation_of, job_of, AnswersRun, AnswersPlain, AnswersAlone, runs, no_form, AnswersWords, AnswersData, AnswersProgram, AnswersNest, too_long, a_text, OneAnswer}
+
+-- with the same steps, a run has one answer: they lead to one state
+one_run : (job : Nest) (options : Options) (history : List ℕ) (answer other : Answer) → AnswersRun job options history answer → AnswersRun job options history other → answer ≡ other
+one_run job options history answer other first second =
+    let both : Some first.complete.last ≡ Some second.complete.last = sym first.complete.ran ∙ second.complete.ran in
+    let same : first.complete.last ≡ second.complete.last = cc in
+    first.is ∙ ap (λ (e : Engine). reported job (facts_of e) history (ending job.program job.opening.words)) same ∙ sym second.is
 
 -- to each list of words there is one answer
 abbrev IsOne : (List ℤ → Answer → Type 0) → Type 0
@@ -18,7 +28,7 @@ one_plain : (program : Program) → IsOne (AnswersPlain program)
 one_plain program words answer other is is' = is ∙ sym is'
 
 one_alone : (options : Options) (program : Program) → IsOne (AnswersAlone options program)
-one_alone options program words answer other (runs first is) (runs first' is') = is ∙ sym is'
+one_alone options program words answer other (runs first is) (runs first' is') = one_run (job_of program words) options (rotation_of options (job_of program words)) answer other is is'
 one_alone options program words answer other (runs first is) (no_form none is') = absurd (none first)
 one_alone options program words answer other (no_form none is) (runs first is') = absurd (none first)
 one_alone options program words answer other (no_form none is) (no_form none' is') = is ∙ sym is'
@@ -43,8 +53,8 @@ module _ (one_nest : (input : List ℕ) (said other : Result Program Refusal) �
   of_nest call input (Err why) answer other is is' = is ∙ sym is'
 
   pub one_answer : OneAnswer
-  one_answer call input answer other (too_long long is) (too_long long' is') = is ∙ sym is'
-  one_answer call input answer other (too_long long is) (a_text few said says is') = absurd (omega (arith, long, few))
-  one_answer call input answer other (a_text few said says is) (too_long long is') = absurd (omega (arith, long, few))
-  one_answer call input answer other (a_text few said says is) (a_text few' said' says' is') =
+  one_answer call input answer other steps (too_long long is) (too_long long' is') = is ∙ sym is'
+  one_answer call input answer other steps (too_long long is) (a_text few said says is') = absurd (omega (arith, long, few))
+  one_answer call input answer other steps (a_text few said says is) (too_long long is') = absurd (omega (arith, long, few))
+  one_answer call input answer other steps (a_text few said says is) (a_text few' said' says' is') =
       of_nest call input said' answer other (subst (λ s. AnswersNest call input s answer) (one_nest input said said' says says') is) is'

@@ -15,7 +15,7 @@ use Rattle.cross_top.specs.declared.top.Unanswered.{Unanswered}
 use Rattle.cross_top.specs.declared.words.Call.{Call}
 use Rattle.progress_board.specs.declared.options.Options.{Options}
 use Rattle.cross_top.specs.Words.{reads_input}
-use Rattle.cross_top.specs.Answers.{Answer, refusal, refused_answer, alone_answer, job_of, AnswersAlone, runs, no_form, AnswersData, AnswersProgram, AnswersInput, too_long, a_text}
+use Rattle.cross_top.specs.Answers.{Answer, refusal, refused_answer, RunsAlone, job_of, AnswersAlone, runs, no_form, AnswersData, AnswersProgram, AnswersInput, too_long, a_text}
 use Rattle.cross_top.specs.Ends.{SourceChange, IsDueTo, TakesInput, TakesWhere}
 
 -- the answer to a nest that is a program
@@ -39,7 +39,7 @@ fault_answered Acts input program why says (Ok reply) h = record { said = Err wh
 fault_answered Acts input program why says (Err e) h = tt
 
 -- what `alone` answers to a program of the first form
-pub form_answered : (r : Result Answer NoMemory) (options : Options) (program : Program) (words : List ℤ) → IsSpelledFirst program → IfOk r (λ reply. reply ≡ alone_answer options program words) → IfOk r (λ reply. AnswersAlone options program words reply)
+pub form_answered : (r : Result Answer NoMemory) (options : Options) (program : Program) (words : List ℤ) → IsSpelledFirst program → IfOk r (λ reply. RunsAlone options program words reply) → IfOk r (λ reply. AnswersAlone options program words reply)
 form_answered (Ok reply) options program words first h = runs first h
 form_answered (Err e) options program words first h = tt
 

@@ -1,11 +1,11 @@
 -- What a finished engine tells is what is due: the outcome of textual order, and the facts of the nest.
-use Rattle.std.proofs.Common.{◌≡◌, ℕ, true, ◌++◌, Result, Ok, Err, IfOk, List, [], Some, subst, ap, ◌∙◌, arith}
+use Rattle.std.proofs.Common.{◌≡◌, ℕ, true, ◌++◌, Result, Ok, Err, IfOk, List, [], Some, sym, subst, ap, ◌∙◌}
 use Rattle.nest_syntax.specs.FirstForm.{IsFirstForm}
 use Rattle.nest_syntax.specs.Outcome.{Ending, Done, TrappedAt, ending}
 use Rattle.nest_mean.specs.Nest.{Nest}
 use Rattle.word_store.specs.Memory.{Memory}
 use Rattle.nest_data.specs.Text.{array_lines}
-use Rattle.settle_law.specs.Runs.{run}
+use Rattle.settle_law.specs.Runs.{run, IsComplete}
 use Rattle.progress_board.specs.declared.facts.Facts.{Facts}
 use Rattle.progress_board.specs.Runs.{Agrees}
 use Rattle.domore_engine.specs.Engine.{Engine, measure, opening, step, is_finished, words_of, facts_of}
@@ -17,35 +17,41 @@ use Rattle.progress_board.specs.Actors.{actors_of}
 use Rattle.progress_board.specs.Rotation.{rotation}
 use Rattle.cross_top.specs.declared.status.Status.TheVariants as status
 use Rattle.cross_top.specs.Words.{IsRunnable}
-use Rattle.cross_top.specs.Answers.{Answer, rotation_of, reported, job_of}
+use Rattle.cross_top.specs.Answers.{Answer, rotation_of, reported, AnswersRun, RunsAlone, FactsAreDue, job_of}
 use Rattle.cross_top.specs.Report.{domore_report}
 use Rattle.cross_top.specs.Told.{told, told_at}
 
 -- what an engine that tells an outcome is told as
-module _ (options : Options) (job : Nest) (e : Engine) (same : e.job ≡ job) where
-  abbrev done_with : Nest → Memory → Facts → Answer
-  done_with j words facts = record { status = status.Done; bytes = array_lines j.program.names words 0 j.program.decls ++ domore_report facts; history = rotation_of options job }
+module _ (options : Options) (job : Nest) (history : List ℕ) (e : Engine) (same : e.job ≡ job) where
+  abbrev done_with : Nest → Memory → Answer
+  done_with j words = record { status = status.Done; bytes = array_lines j.program.names words 0 j.program.decls ++ domore_report (facts_of e); history = history }
 
-  told_as : (outcome : Ending) → Tells (facts_due job options) e outcome → told e (rotation_of options job) ≡ reported options job outcome
+  told_as : (outcome : Ending) → Tells (facts_due job options) e outcome → told e history ≡ reported job (facts_of e) history outcome
   told_as (Done words) (over, final, counts) =
-      ap (λ x. told_at x e (rotation_of options job)) over
-      ∙ ap (λ m. done_with e.job m (facts_of e)) final
-      ∙ ap (λ f. done_with e.job (record { sizes = e.job.opening.sizes; words = words }) f) counts
-      ∙ ap (λ (j : Nest). done_with j (record { sizes = j.opening.sizes; words = words }) (facts_due job options)) same
-  told_as (TrappedAt place) trap = ap (λ x. told_at x e (rotation_of options job)) trap
+      ap (λ x. told_at x e history) over
+      ∙ ap (λ m. done_with e.job m) final
+      ∙ ap (λ (j : Nest). done_with j (record { sizes = j.opening.sizes; words = words })) same
+  told_as (TrappedAt place) trap = ap (λ x. told_at x e history) trap
 
--- for the engine that a history leaves
-pub told_due : (options : Options) → IsRunnable options → (job : Nest) → IsFirstForm job.program → (history : List ℕ) (e : Engine) → run step (opening job options) history ≡ Some e → is_finished e ≡ true → told e (rotation_of options job) ≡ reported options job (ending job.program job.opening.words)
-told_due options runnable job form history e ran finished =
-    let due : EndsAs job options e = ends_as_job job options form runnable.in_range history (record { last = e; ran = ran; finished = finished }) in
-    told_as options job e due.same (ending job.program job.opening.words) due.tells
+-- a complete history answers its run
+pub answers_run : (options : Options) → IsRunnable options → (job : Nest) → IsFirstForm job.program → (history : List ℕ) (complete : IsComplete step is_finished (opening job options) history) (answer : Answer) → answer ≡ told complete.last history → AnswersRun job options history answer
+answers_run options runnable job form history complete answer is =
+    let due : EndsAs job options complete.last = ends_as_job job options form runnable.in_range history complete in
+    record { complete = complete; is = is ∙ told_as options job history complete.last due.same (ending job.program job.opening.words) due.tells }
+
+pub facts_are_due : FactsAreDue
+facts_are_due job options form in_range history answer run words done =
+    let due : EndsAs job options run.complete.last = ends_as_job job options form in_range history run.complete in
+    (subst (Tells (facts_due job options) run.complete.last) done due.tells).2
 
 -- what `alone` answers, from what its calls leave
 pub alone_due : (r : Result Answer NoMemory) (job : Nest) → IsFirstForm job.program → job ≡ job_of job.program job.opening.words → (options : Options) → IsRunnable options → (start e : Engine) → start ≡ opening job options
     → (before after : List ℕ) → before ≡ [] → after ≡ before ++ rotation step measure start (actors_of start.options) [] → Agrees step start before e after → is_finished e ≡ true
-    → IfOk r (λ reply. reply ≡ told e after) → IfOk r (λ reply. reply ≡ reported options (job_of job.program job.opening.words) (ending job.program job.opening.words))
+    → IfOk r (λ reply. reply ≡ told e after) → IfOk r (λ reply. RunsAlone options job.program job.opening.words reply)
 alone_due (Err x) job form own options runnable start e s before after b t a finished h = tt
 alone_due (Ok reply) job form own options runnable start e s before after b t a finished h =
     let after_is : after ≡ rotation_of options job = t ∙ ap (λ (x : List ℕ). x ++ rotation step measure start (actors_of start.options) []) b ∙ ap (λ (x : Engine). rotation step measure x (actors_of x.options) []) s in
+    let made_is : a.made ≡ rotation_of options job = sym (a.appended ∙ ap (λ (x : List ℕ). x ++ a.made) b) ∙ after_is in
     let ran : run step (opening job options) a.made ≡ Some e = subst (λ (x : Engine). run step x a.made ≡ Some e) s a.ran in
-    h ∙ ap (λ (x : List ℕ). told e x) after_is ∙ told_due options runnable job form a.made e ran finished ∙ ap (λ (j : Nest). reported options j (ending job.program job.opening.words)) own
+    let complete : IsComplete step is_finished (opening job options) (rotation_of options job) = record { last = e; ran = subst (λ (x : List ℕ). run step (opening job options) x ≡ Some e) made_is ran; finished = finished } in
+    subst (λ (j : Nest). AnswersRun j options (rotation_of options j) reply) own (answers_run options runnable job form (rotation_of options job) complete reply (h ∙ ap (λ (x : List ℕ). told e x) after_is))

@@ -13,8 +13,10 @@ use Rattle.progress_board.specs.declared.options.Options.{Options}
 use Rattle.word_store.specs.Memory.{Memory}
 use Rattle.nest_input.specs.declared.refused.Refusal.{Refusal}
 use Rattle.nest_mean.specs.Nest.{Nest}
+use Rattle.progress_board.specs.declared.facts.Facts.{Facts}
+use Rattle.domore_engine.specs.Engine.{facts_of}
 use Rattle.cross_top.specs.Words.{call_of}
-use Rattle.cross_top.specs.Answers.{Answer, refusal, refused_answer, printed, reported, job_of, plain_answer, check_answer, alone_answer}
+use Rattle.cross_top.specs.Answers.{Answer, refusal, refused_answer, printed, reported, rotation_of, job_of, plain_answer, check_answer}
 use Rattle.cross_top.specs.Answers.{AnswersPlain, AnswersAlone, runs, no_form, AnswersWords, AnswersProgram, AnswersNest, AnswersInput, too_long, a_text}
 use Rattle.cross_top.specs.Ends.{SourceChange, IsDue, IsDueTo, Ends}
 
@@ -37,9 +39,9 @@ printed_answers : (program : Program) (e : Ending) → IsAnswering (printed prog
 printed_answers program (Done words) = tt
 printed_answers program (TrappedAt place) = tt
 
-reported_answers : (options : Options) (job : Nest) (e : Ending) → IsAnswering (reported options job e).status
-reported_answers options job (Done words) = tt
-reported_answers options job (TrappedAt place) = tt
+reported_answers : (job : Nest) (facts : Facts) (history : List ℕ) (e : Ending) → IsAnswering (reported job facts history e).status
+reported_answers job facts history (Done words) = tt
+reported_answers job facts history (TrappedAt place) = tt
 
 -- the status of an answer that is this one
 is_answering : (answer due : Answer) → answer ≡ due → IsAnswering due.status → IsAnswering answer.status
@@ -49,7 +51,9 @@ plain_answers : (program : Program) (words : List ℤ) (answer : Answer) → Ans
 plain_answers program words answer is = is_answering answer (plain_answer program words) is (printed_answers program (ending program words))
 
 alone_answers : (options : Options) (program : Program) (words : List ℤ) (answer : Answer) → AnswersAlone options program words answer → IsAnswering answer.status
-alone_answers options program words answer (runs first is) = is_answering answer (alone_answer options program words) is (reported_answers options (job_of program words) (ending program words))
+alone_answers options program words answer (runs first run) =
+    let job = job_of program words in let history = rotation_of options job in let facts = facts_of run.complete.last in
+    is_answering answer (reported job facts history (ending program words)) run.is (reported_answers job facts history (ending program words))
 alone_answers options program words answer (no_form none is) = is_answering answer (refusal status.TextRefused (codes "form")) is tt
 
 words_answers : (Acts : List ℤ → Answer → Type 0) → ((words : List ℤ) (answer : Answer) → Acts words answer → IsAnswering answer.status) → (said : Result Memory Refusal) (answer : Answer) → AnswersWords Acts said answer → IsAnswering answer.status

@@ -2,6 +2,7 @@
 use Rattle.std.specs.Prelude.{◌≡◌, ℕ, ◌≤◌, ◌<◌, ℤ, Result, Ok, Err, List, [], ◌∷◌, ◌++◌, codes, length}
 use Rattle.nest_syntax.specs.declared.tree.Program.{Program}
 use Rattle.nest_syntax.specs.Arrays.{arrays_of, sizes_of}
+use Rattle.nest_syntax.specs.FirstForm.{IsFirstForm}
 use Rattle.nest_syntax.specs.Outcome.{Ending, Done, TrappedAt, ending}
 use Rattle.word_store.specs.Memory.{Memory}
 use Rattle.nest_io.specs.declared.transfer.TheConstants.{MOST_BYTES}
@@ -17,10 +18,13 @@ use Rattle.cross_top.specs.declared.words.Action.{Action}
 use Rattle.cross_top.specs.declared.words.Action.TheVariants.{Plain, Check, Alone}
 use Rattle.cross_top.specs.declared.words.Call.{Call}
 use Rattle.nest_mean.specs.Nest.{Nest}
+use Rattle.settle_law.specs.Runs.{IsComplete}
 use Rattle.progress_board.specs.declared.options.Options.{Options}
+use Rattle.progress_board.specs.declared.facts.Facts.{Facts}
+use Rattle.progress_board.specs.Options.{IsInRange}
 use Rattle.progress_board.specs.Actors.{actors_of}
 use Rattle.progress_board.specs.Rotation.{rotation}
-use Rattle.domore_engine.specs.Engine.{opening, step, measure}
+use Rattle.domore_engine.specs.Engine.{opening, step, measure, is_finished, facts_of}
 use Rattle.domore_engine.specs.Theorems.{facts_due}
 use Rattle.cross_top.specs.Report.{domore_report}
 use Rattle.cross_top.specs.Refusals.{reason_text}
@@ -48,10 +52,16 @@ job_of program words = record { program = program; opening = record { sizes = si
 abbrev pub rotation_of : Options → Nest → List ℕ
 rotation_of options job = rotation step measure (opening job options) (actors_of options) []
 
--- the outcome of a job with the report of the engine, and the steps of the rotation
-abbrev pub reported : Options → Nest → Ending → Answer
-reported options job (Done words) = record { status = status.Done; bytes = array_lines job.program.names (record { sizes = job.opening.sizes; words = words }) 0 job.program.decls ++ domore_report (facts_due job options); history = rotation_of options job }
-reported options job (TrappedAt place) = record { status = status.Trapped; bytes = trap_line place; history = rotation_of options job }
+-- the outcome of a job with the report of an engine's facts, and the steps that it made
+abbrev pub reported : Nest → Facts → List ℕ → Ending → Answer
+reported job facts history (Done words) = record { status = status.Done; bytes = array_lines job.program.names (record { sizes = job.opening.sizes; words = words }) 0 job.program.decls ++ domore_report facts; history = history }
+reported job facts history (TrappedAt place) = record { status = status.Trapped; bytes = trap_line place; history = history }
+
+-- The answer of a run with these steps: they are a complete history for the job and the options, and what is printed is
+-- the outcome of textual order, with the facts of that history.
+pub record AnswersRun (job : Nest) (options : Options) (history : List ℕ) (answer : Answer) : Type 0 where
+  pub complete : IsComplete step is_finished (opening job options) history
+  pub is : answer ≡ reported job (facts_of complete.last) history (ending job.program job.opening.words)
 
 -- what `plain` answers to a program on these opening words: the outcome of textual order
 abbrev pub plain_answer : Program → List ℤ → Answer
@@ -61,9 +71,9 @@ plain_answer program words = printed program (ending program words)
 abbrev pub check_answer : Program → Answer
 check_answer program = record { status = status.Done; bytes = canonical_text program; history = [] }
 
--- what `alone` answers to a program of the first form on these opening words: the same outcome, with a report
-abbrev pub alone_answer : Options → Program → List ℤ → Answer
-alone_answer options program words = reported options (job_of program words) (ending program words)
+-- what `alone` answers to a program of the first form on these opening words: a run by the rotation
+abbrev pub RunsAlone : Options → Program → List ℤ → Answer → Type 0
+RunsAlone options program words answer = AnswersRun (job_of program words) options (rotation_of options (job_of program words)) answer
 
 -- the answer to an input that is refused
 abbrev pub refused_answer : Refusal → Answer
@@ -75,7 +85,7 @@ AnswersPlain program words answer = answer ≡ plain_answer program words
 
 -- `alone` runs the programs of the first form, and refuses each other one
 pub data AnswersAlone (options : Options) (program : Program) (words : List ℤ) (answer : Answer) : Type 0 where
-  runs : IsSpelledFirst program → answer ≡ alone_answer options program words → AnswersAlone options program words answer
+  runs : IsSpelledFirst program → RunsAlone options program words answer → AnswersAlone options program words answer
   no_form : (IsSpelledFirst program → ⊥) → answer ≡ refusal status.TextRefused (codes "form") → AnswersAlone options program words answer
 
 -- what is answered to what the data lines say, by an action that answers so to the words of a program
@@ -105,6 +115,10 @@ pub data AnswersInput (call : Call) (input : List ℕ) (answer : Answer) : Type 
   too_long : MOST_BYTES < length input → answer ≡ refusal status.TextRefused (codes "too long") → AnswersInput call input answer
   a_text : length input ≤ MOST_BYTES → (said : Result Program Refusal) → SaysNest input said → AnswersNest call input said answer → AnswersInput call input answer
 
--- an input has one answer
+-- With the same steps, an input has one answer.
 abbrev pub OneAnswer : Type 0
-OneAnswer = (call : Call) (input : List ℕ) (answer other : Answer) → AnswersInput call input answer → AnswersInput call input other → answer ≡ other
+OneAnswer = (call : Call) (input : List ℕ) (answer other : Answer) → answer.history ≡ other.history → AnswersInput call input answer → AnswersInput call input other → answer ≡ other
+
+-- The facts of a run of a job that doesn't trap are those that are due, whatever its history.
+abbrev pub FactsAreDue : Type 0
+FactsAreDue = (job : Nest) (options : Options) → IsFirstForm job.program → IsInRange options → (history : List ℕ) (answer : Answer) (run : AnswersRun job options history answer) (words : List ℤ) → ending job.program job.opening.words ≡ Done words → facts_of run.complete.last ≡ facts_due job options

@@ -1,7 +1,7 @@
 ghost use Rattle.std.specs.Prelude.{◌≡◌, true, IfOk};
 ghost use Rattle.nest_syntax.specs.FirstForm.{IsFirstForm};
 ghost use Rattle.domore_engine.specs.Engine.{is_finished};
-ghost use Rattle.cross_top.specs.Answers.{alone_answer, job_of};
+ghost use Rattle.cross_top.specs.Answers.{RunsAlone, job_of};
 ghost use Rattle.cross_top.specs.Words.{IsRunnable};
 ghost use Rattle.cross_top.specs.Told.{told, done_text};
 
@@ -22,7 +22,7 @@ pub fn alone(alloc: Global, options: Options, job: Job) -> Result<Reply, NoMemor
     requires runs { IsRunnable options }
     requires form { IsFirstForm job.program }
     requires own { job ≡ job_of job.program job.opening.words }
-    ensures { IfOk result (λ reply. reply ≡ alone_answer options job.program job.opening.words) }
+    ensures { IfOk result (λ reply. RunsAlone options job.program job.opening.words reply) }
 {
     let mut machine = Domore::open(alloc, job, options)?;
     let mut history = Vec::new(alloc);

@@ -1,7 +1,7 @@
 //! What the program `cross` does with its command words and an input.
 //!
 //! In come words, a source and a sink, out come the bytes that are due and a status. `cross_quiet` is the top call;
-//! `Ends` of specs/Ends says what it does, and `one_answer` that this is a function of words and input.
+//! `Ends` of specs/Ends says what it does, and `one_answer` that with the same steps of an engine it is one.
 #![tactic(auto)]
 
 mod alone;
@@ -13,7 +13,7 @@ mod status;
 mod top;
 mod words;
 
-pub use laws::one_answer;
+pub use laws::{facts_are_due, one_answer};
 pub use status::{Ended, Status, exit_code};
 pub use top::cross_quiet;
 pub use words::{Action, Call};
