@@ -23,7 +23,7 @@ use Rattle.nest_syntax.specs.Course.{Setting, Course, Purpose, Ordinary, Header,
 use Rattle.nest_syntax.specs.Outcome.{turn_in, completed, events_from, iterations_among}
 use Rattle.nest_mean.specs.Nest.{Nest, CanRun}
 use Rattle.nest_mean.specs.Bound.{HasFewIterations}
-use Rattle.nest_mean.proofs.Sameness.{same_regions}
+use Rattle.nest_syntax.proofs.Shapes.{regions_same}
 
 -- at most so many iterations, whatever the drains read
 abbrev AtMost : ℕ → Course → Type 0
@@ -221,7 +221,7 @@ pub has_few : HasFewIterations
 has_few nest runs =
     let setting = setting_of nest.program nest.opening.words in
     let whole = whole_of nest.program nest.opening.words in
-    let same : length (bodies_of nest.program) ≡ length whole.bodies = ap length (same_regions (setting_of nest.program []) setting nest.program.regions) in
+    let same : length (bodies_of nest.program) ≡ length whole.bodies = ap length (sym (regions_same setting nest.program.regions)) in
     let within : 281474976710656 * length whole.bodies + 0 ≤ 2 ^ 60 = omega (arith, same, runs.few_bodies) in
     let course = whole.events 0 (opening_scalars nest.program) (λ after. End) in
     among (sizes_of (arrays_of nest.program.decls)) (turn_in (arrays_of nest.program.decls) (bodies_of nest.program)) course (2 ^ 60) (Some nest.opening.words)
