@@ -20,12 +20,13 @@ fn run(machine: &mut Relay, schedule: &[u8], history: &mut Vec<u8>) -> Result<()
 }
 
 // What a machine shows of itself.
-fn shown(machine: &Relay) -> (bool, Ending, Options, usize) {
+fn shown(machine: &Relay) -> (bool, Ending, Options, usize, usize) {
     (
         machine.finished(),
         machine.ending(),
         machine.facts().options,
-        machine.job().words().arrays() + machine.words().arrays(),
+        machine.job().words().arrays(),
+        machine.words().arrays(),
     )
 }
 
@@ -49,7 +50,7 @@ fn the_rotation_goes_on_behind_the_schedule(rt: HostRuntime) -> Result<(), Fail>
         );
         assert_eq!(rt;
             shown(&machine),
-            (true, Ending::Done, options(&rt, workers, queue), 0)
+            (true, Ending::Done, options(&rt, workers, queue), 0, 0)
         );
     }
     Ok(())
