@@ -1,11 +1,13 @@
-use crate::jobs::{first_job, is_first};
+ghost use Rattle.std.specs.Prelude.{◌≡◌};
+ghost use Rattle.nest_syntax.specs.FirstForm.{IsFirstForm};
+
+use crate::jobs::first_job;
 use crate::nests::{FIRST, SHIFTED};
 use addr_slice::{Claims, claims};
 use nest_mean::Job;
-use nest_syntax::NoMemory;
+use nest_syntax::{NoMemory, Program};
 use std::alloc::{AllocError, Global};
 use std::fmt::Write;
-use std::process::Abort;
 use std::test::Fail;
 
 /// Claims in rising order, each word with its kinds.
@@ -24,19 +26,18 @@ fn shown(alloc: Global, claims: &Claims) -> Result<String, AllocError> {
     Ok(text)
 }
 
+fn program_of(job: &Job) -> &Program
+    ensures { result.now ≡ job.now.program }
+{
+    job.checked().program()
+}
+
 /// The claims of an iteration of a job of the first form.
-fn claimed(
-    rt: &impl Abort,
-    alloc: Global,
-    job: &Job,
-    outer: i64,
-    inner: i64,
-) -> Result<Claims, NoMemory> {
-    let checked = job.checked();
-    let program = checked.program();
-    let mut into = Claims::with_room(alloc, checked.lengths())?;
-    assert!(rt; is_first(job));
-    claims(program, outer, inner, &mut into);
+fn claimed(alloc: Global, job: &Job, outer: i64, inner: i64) -> Result<Claims, NoMemory>
+    requires { IsFirstForm job.now.program }
+{
+    let mut into = Claims::with_room(alloc, job.checked().lengths())?;
+    claims(program_of(job), outer, inner, &mut into);
     Ok(into)
 }
 
@@ -56,7 +57,7 @@ fn the_claims_of_iterations(rt: HostRuntime) -> Result<(), Fail> {
         (SHIFTED, 9, 4, ""),
     ] {
         let job = first_job(&rt, rt.alloc(), input)?;
-        let claims = claimed(&rt, rt.alloc(), &job, outer, inner)?;
+        let claims = claimed(rt.alloc(), &job, outer, inner)?;
         assert_eq!(rt; shown(rt.alloc(), &claims)?.as_str(), wanted, "at {inner}");
     }
     Ok(())
