@@ -13,3 +13,4 @@ mod word_set;
 pub use claim_set::Claims;
 pub use law::{claims_hold_turns, test_tells_clash};
 pub use walk::claims;
+pub use word_set::WordSet;

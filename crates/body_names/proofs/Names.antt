@@ -63,16 +63,22 @@ out_one name one out = by_test (eqb_tells name one)
 pub bound_other : (scope : Scope) (one name : ℕ) (to : Binding) → name ≢ one → bound (with_bound scope one to) name ≡ bound scope name
 bound_other scope one name to apart = get_or-set_other scope one name to binding.Unbound apart
 
+-- a name that is bound anew, where the scope has it, and the others
+pub bound_with : (scope : Scope) (one name : ℕ) (to : Binding) → ((name ≡ one) × (bound (with_bound scope one to) name ≡ to)) ⊎ (bound (with_bound scope one to) name ≡ bound scope name)
+bound_with scope one name to = ⊎_elim
+    (λ (same : ((name == one) ≡ true) × (name ≡ one)). ⊎_elim
+    (λ (there : one < length scope). inl (same.1, ap (bound (with_bound scope one to)) same.1 ∙ get_or-set_same scope one to binding.Unbound there))
+    (λ (over : length scope ≤ one). inr (ap (λ s. bound s name) (set_past scope one to over)))
+    (cases_lt one (length scope)))
+    (λ (apart : ((name == one) ≡ false) × (name ≢ one)). inr (bound_other scope one name to apart.1))
+    (eqb_tells name one)
+
 -- what is unbound behind a declaration was so before it
 pub unbound_before : (scope : Scope) (one name : ℕ) (to : Binding) → to ≢ binding.Unbound → bound (with_bound scope one to) name ≡ binding.Unbound → bound scope name ≡ binding.Unbound
-unbound_before scope one name to some is = by_test (eqb_tells name one)
-  where
-    by_test : (((name == one) ≡ true) × (name ≡ one)) ⊎ (((name == one) ≡ false) × (name ≢ one)) → bound scope name ≡ binding.Unbound
-    by_test (inl e) = ⊎_elim
-        (λ (there : one < length scope). absurd (some (sym (get_or-set_same scope one to binding.Unbound there) ∙ ap (bound (with_bound scope one to)) (sym e.1) ∙ is)))
-        (λ (over : length scope ≤ one). sym (ap (λ s. bound s name) (set_past scope one to over)) ∙ is)
-        (cases_lt one (length scope))
-    by_test (inr e) = sym (bound_other scope one name to e.1) ∙ is
+unbound_before scope one name to some is = ⊎_elim
+    (λ (here : (name ≡ one) × (bound (with_bound scope one to) name ≡ to)). absurd (some (sym here.1 ∙ is)))
+    (λ (other : bound (with_bound scope one to) name ≡ bound scope name). sym other ∙ is)
+    (bound_with scope one name to)
 
 -- a declaration that breaks no rule is of a name that was unbound
 pub declared_once : (to : Binding) → is_redeclared action.Declared to ≡ false → to ≡ binding.Unbound

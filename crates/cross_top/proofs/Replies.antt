@@ -1,10 +1,9 @@
 -- What makes an answer due.
-use Rattle.std.proofs.Common.{◌≡◌, ℕ, ◌+◌, ◌≤◌, ℤ, true, false, List, [], codes, length, Option, Some, Result, Ok, Err, IfOk, MatchResult, refl, sym, subst, arith}
+use Rattle.std.proofs.Common.{◌≡◌, ℕ, ◌+◌, ◌≤◌, ℤ, true, false, List, [], codes, length, Some, Result, Ok, Err, IfOk, MatchResult, refl, sym, subst, arith}
 use Rattle.std.specs.Io.KnownBytes.{Keeps, Consumes}
 use Rattle.nest_syntax.specs.declared.names.NoMemory.{NoMemory}
 use Rattle.nest_syntax.specs.declared.tree.Program.{Program}
-use Rattle.nest_syntax.specs.Arrays.{arrays_of, sizes_of}
-use Rattle.word_store.specs.Memory.{Memory}
+use Rattle.word_store.specs.Memory.{Memory, HasLayout}
 use Rattle.nest_io.specs.declared.transfer.TheConstants.{MOST_BYTES}
 use Rattle.nest_input.specs.declared.refused.Refusal.{Refusal}
 use Rattle.nest_input.specs.Input.{SaysNest, SaysWords}
@@ -49,7 +48,7 @@ formless_answered (Ok reply) options program words none h = no_form none h
 formless_answered (Err e) options program words none h = tt
 
 -- a job has the sizes of its program
-pub own_job : (nest : Nest) → nest.opening.sizes ≡ sizes_of (arrays_of nest.program.decls) → nest ≡ job_of nest.program nest.opening.words
+pub own_job : (nest : Nest) → HasLayout nest.opening nest.program.decls → nest ≡ job_of nest.program nest.opening.words
 own_job nest sizes = λ i. record { program = nest.program; opening = record { sizes = sizes i; words = nest.opening.words } }
 
 -- a call is answered from these bytes of a source

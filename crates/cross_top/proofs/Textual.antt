@@ -6,9 +6,8 @@ use Rattle.nest_mean.specs.Nest.{Nest}
 use Rattle.word_store.specs.Memory.{Memory}
 use Rattle.nest_data.specs.Text.{array_lines}
 use Rattle.settle_law.specs.Runs.{run, IsComplete}
-use Rattle.progress_board.specs.declared.facts.Facts.{Facts}
 use Rattle.progress_board.specs.Runs.{Agrees}
-use Rattle.domore_engine.specs.Engine.{Engine, measure, opening, step, is_finished, words_of, facts_of}
+use Rattle.domore_engine.specs.Engine.{Engine, measure, opening, step, is_finished, facts_of}
 use Rattle.domore_engine.specs.Theorems.{EndsAs, Tells, facts_due}
 use Rattle.domore_engine.proofs.Histories.{ends_as_job}
 use Rattle.nest_syntax.specs.declared.names.NoMemory.{NoMemory}

@@ -1,4 +1,4 @@
--- What a machine that has ended tells.
+-- No caller of `cross_quiet` needs this. What a machine that has ended tells.
 use Rattle.std.specs.Prelude.{ℕ, List, [], ◌++◌}
 use Rattle.progress_board.specs.declared.facts.Ending.{Ending}
 use Rattle.progress_board.specs.declared.facts.Ending.TheVariants.{Unfinished, Done, Trapped}

@@ -8,9 +8,9 @@ use Rattle.nest_syntax.specs.declared.tree.Expr.{Expr}
 use Rattle.nest_syntax.specs.declared.tree.Stmt.{Stmt}
 use Rattle.nest_syntax.specs.Arrays.{Array}
 use Rattle.nest_syntax.specs.Value.{names_written}
-use Rattle.graph_reach.specs.declared.Edge.{Edge}
+use Rattle.data_local.specs.declared.reach.Edge.{Edge}
 use Rattle.nest_syntax.specs.Among.{is_among, IsOne}
-use Rattle.graph_reach.specs.Reached.{is_edge, IsReached, start, along}
+use Rattle.data_local.specs.Reached.{is_edge, IsReached, start, along}
 use Rattle.data_local.specs.declared.rows.Row.{Row}
 use Rattle.data_local.specs.declared.rows.Row.TheVariants as row
 use Rattle.data_local.specs.Names.{scalars_in}

@@ -1,4 +1,5 @@
 pub mod Parts
+pub mod Edges
 pub mod Scans
 pub mod Walks
 pub mod Graphs

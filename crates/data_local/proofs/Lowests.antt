@@ -9,14 +9,14 @@ use Rattle.nest_syntax.specs.declared.tree.Loop.{Loop}
 use Rattle.nest_syntax.specs.declared.tree.Stmt.{Stmt}
 use Rattle.nest_syntax.specs.Arrays.{Array}
 use Rattle.nest_syntax.specs.Value.{names_written}
-use Rattle.lowest_line.proofs.Lists.{lower_of-where}
-use Rattle.lowest_line.specs.Lowest.{lower_of, lines_where, lower_if, IsAtMost, Lowers}
-use Rattle.lowest_line.proofs.Lowers.{lowers_by}
+use Rattle.nest_syntax.proofs.LowerLists.{lower_of-where}
+use Rattle.nest_syntax.specs.Lowest.{lower_of, lines_where, lower_if, IsAtMost, Lowers}
+use Rattle.nest_syntax.proofs.Lowers.{lowers_by}
 use Rattle.nest_syntax.specs.Among.{is_among, IsOne}
 use Rattle.data_local.specs.Names.{scalars_in}
 use Rattle.data_local.specs.DataLocals.{IsData, AreDataLocals}
-use Rattle.data_local.specs.Loops.{loops_in}
-use Rattle.data_local.specs.Bounds.{line_of, HasDataBoundIn}
+use Rattle.data_local.specs.Loops.{line_of, loops_in}
+use Rattle.data_local.specs.Bounds.{HasDataBoundIn}
 use Rattle.data_local.specs.Breaches.{is_data, has_data_bound}
 use Rattle.data_local.proofs.Parts.{either, or_left, or_right, one_left, one_right, one_parts}
 use denote.Ref.{Bor}
@@ -77,13 +77,13 @@ local_any locals (first ∷ names) name e h = by_either (λ later. local_any loc
     by_either go (inl same) = or_left (is_among locals first) (list_any (is_among locals) names) (ap (is_among locals) (sym (eqb-true name first same)) ∙ h)
     by_either go (inr later) = or_right (is_among locals first) (list_any (is_among locals) names) (go later)
 
-data_is : (arrays : List Array) (body : List Stmt) (locals : List ℕ) (e : Expr) → AreDataLocals arrays body locals → is_data arrays locals e ≡ true → IsData arrays body e
+pub data_is : (arrays : List Array) (body : List Stmt) (locals : List ℕ) (e : Expr) → AreDataLocals arrays body locals → is_data arrays locals e ≡ true → IsData arrays body e
 data_is arrays body locals e are h = elim (either (names_written arrays e) (list_any (is_among locals) (scalars_in e)) h) [
   | inl written ↦ inl written
   | inr local ↦ let at = any_local locals (scalars_in e) local in inr (at.0, at.1, (are at.0).0 at.2)
 ]
 
-is_data_of : (arrays : List Array) (body : List Stmt) (locals : List ℕ) (e : Expr) → AreDataLocals arrays body locals → IsData arrays body e → is_data arrays locals e ≡ true
+pub is_data_of : (arrays : List Array) (body : List Stmt) (locals : List ℕ) (e : Expr) → AreDataLocals arrays body locals → IsData arrays body e → is_data arrays locals e ≡ true
 is_data_of arrays body locals e are (inl written) = or_left (names_written arrays e) (list_any (is_among locals) (scalars_in e)) written
 is_data_of arrays body locals e are (inr local) = or_right (names_written arrays e) (list_any (is_among locals) (scalars_in e)) (local_any locals (scalars_in e) local.0 local.1 ((are local.0).1 local.2))
 

@@ -2,6 +2,7 @@ pub mod Names
 pub mod Written
 pub mod Givings
 pub mod DataLocals
+pub mod Reached
 pub mod Loops
 pub mod Bounds
 pub mod Rows

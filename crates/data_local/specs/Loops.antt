@@ -1,6 +1,7 @@
 -- The loops of a program, at any depth.
 use Rattle.std.specs.Prelude.{List, [], ◌∷◌, ◌++◌}
 use Rattle.std.specs.List.{flat_map}
+use Rattle.nest_syntax.specs.declared.names.Line.{Line}
 use Rattle.nest_syntax.specs.declared.tree.Arm.{Arm}
 use Rattle.nest_syntax.specs.declared.tree.Loop.{Loop}
 use Rattle.nest_syntax.specs.declared.tree.Stmt.{Stmt}
@@ -38,3 +39,7 @@ loops_in stmts = flat_map loops stmts
 -- all loops of a program, its regions among them
 abbrev pub loops_of : Program → Loops
 loops_of program = flat_map (λ (region : Loop). region ∷ loops_in region.body) program.regions
+
+-- the line of a loop
+abbrev pub line_of : Loop → Line
+line_of l = l.line

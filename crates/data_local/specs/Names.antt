@@ -1,4 +1,4 @@
--- The names that an expression names: as scalars, and as arrays, with a subscript.
+-- The names that an expression names as scalars, without a subscript.
 use Rattle.std.specs.Prelude.{ℕ, List, [], ◌∷◌, ◌++◌}
 use Rattle.nest_syntax.specs.declared.tree.Expr.{Expr}
 use Rattle.nest_syntax.specs.declared.tree.Expr.TheOpen.{Expr-F}
@@ -13,23 +13,6 @@ scalars_node (Expr-F.Unary operation part) = part
 scalars_node (Expr-F.Binary operation left right) = left ++ right
 scalars_node (Expr-F.Choice test first second) = test ++ (first ++ second)
 
-abbrev pub arrays_node : Expr-F (List ℕ) → List ℕ
-arrays_node (Expr-F.Number n) = []
-arrays_node (Expr-F.Scalar name) = []
-arrays_node (Expr-F.Word name place) = name ∷ place
-arrays_node (Expr-F.Unary operation part) = part
-arrays_node (Expr-F.Binary operation left right) = left ++ right
-arrays_node (Expr-F.Choice test first second) = test ++ (first ++ second)
-
 -- the names without a subscript, in the order of the text, as often as they stand there
 abbrev pub scalars_in : Expr → List ℕ
 scalars_in = fold-Expr (List ℕ) scalars_node
-
--- the names with a subscript
-abbrev pub arrays_in : Expr → List ℕ
-arrays_in = fold-Expr (List ℕ) arrays_node
-
--- lists of names, without a subscript and with one
-pub record Named : Type 0 where
-  pub scalars : List ℕ
-  pub arrays : List ℕ

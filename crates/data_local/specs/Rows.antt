@@ -1,11 +1,11 @@
--- How the givings of a body are kept: as rows, each a giving or a test, in the order of the text. A row tells under which
--- test it stands, by the test's number; what that test stands under isn't repeated. The definitions here take the newest
--- row first.
+-- No caller of `data_locals_by_body` needs this. How the givings of a body are kept: as rows, each a giving or a test,
+-- in the order of the text. A row tells under which test it stands, by the test's number; what that test stands under
+-- isn't repeated. The definitions here take the newest row first.
 use Rattle.std.specs.Prelude.{◌≡◌, ℕ, suc, ◌+◌, ◌*◌, ◌≤◌, ◌==◌, if◌then◌else◌, List, [], ◌∷◌, ◌++◌, map, length, reverse}
 use Rattle.nest_syntax.specs.declared.tree.Expr.{Expr}
 use Rattle.nest_syntax.specs.Arrays.{Array}
 use Rattle.nest_syntax.specs.Value.{names_written}
-use Rattle.graph_reach.specs.declared.Edge.{Edge}
+use Rattle.data_local.specs.declared.reach.Edge.{Edge}
 use Rattle.data_local.specs.declared.rows.Row.{Row}
 use Rattle.data_local.specs.declared.rows.Row.TheVariants as row
 use Rattle.nest_syntax.specs.Among.{is_among}

@@ -1,8 +1,7 @@
-//! The data locals of a body, and the two rules on the bounds of loops.
+//! The data locals of a body, and the rule on the bounds of the loops inside it.
 //!
 //! In comes a program, out go the data locals of each body: the names whose values may depend on written arrays; and the
-//! lowest lines that break the rules: a high bound stays as it is while its loop runs, and the bounds of the loops inside
-//! a body depend on no written array.
+//! lowest line that breaks the rule that the bounds of the loops inside a body depend on no written array.
 #![tactic(auto)]
 
 mod bodies;
@@ -10,9 +9,12 @@ mod bounds;
 mod locals;
 mod loops;
 mod names;
+mod reach;
 mod rows;
 mod written;
 
 pub use bodies::data_locals_by_body;
-pub use bounds::{BoundBreaches, bound_breaches};
-pub use locals::{DataLocals, data_locals};
+pub use bounds::lowest_data_bound;
+pub use locals::DataLocals;
+pub use loops::loops_of;
+pub use written::WrittenArrays;

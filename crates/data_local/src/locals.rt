@@ -2,17 +2,17 @@ ghost use Rattle.std.specs.Prelude.{◌≡◌, ℕ, ◌++◌, ◌<◌, ◌≤◌
 ghost use Rattle.std.specs.List.{flat_map, list_any};
 ghost use Rattle.nest_syntax.specs.Among.{is_among};
 ghost use Rattle.data_local.specs.Names.{scalars_in};
-ghost use Rattle.nest_syntax.specs.Arrays.{Array, arrays_of};
+ghost use Rattle.nest_syntax.specs.Arrays.{Array};
 ghost use Rattle.data_local.specs.Givings.{givings};
 ghost use Rattle.data_local.specs.DataLocals.{AreDataLocals};
 ghost use Rattle.data_local.specs.Written.{TellsWritten};
 ghost use Rattle.data_local.specs.Rows.{told, IsBuilt, row_edges, row_starts, row_names, edges_to, start_of};
 
 use crate::names::{draw_edges, node_of_name};
+use crate::reach::{Edge, Nodes, reached};
 use crate::rows::{Row, keep_block};
 use crate::written::WrittenArrays;
-use graph_reach::{Edge, Nodes, reached};
-use nest_syntax::{Decl, Expr, NoMemory, Stmt};
+use nest_syntax::{Expr, NoMemory, Stmt};
 use std::alloc::Global;
 use std::marker::Model;
 
@@ -43,6 +43,15 @@ impl DataLocals {
         DataLocals { names }
     }
 
+    /// An equal value.
+    pub fn copy(&self, alloc: Global) -> Result<DataLocals, NoMemory>
+        ensures { IfOk result (λ copied. copied ≡ self.now) }
+    {
+        Ok(DataLocals {
+            names: Vec::from_slice(alloc, self.names.as_slice())?,
+        })
+    }
+
     /// Whether a name is a data local of the body.
     pub fn has(&self, name: u32) -> bool
         ensures { result ≡ is_among self.now name }
@@ -71,15 +80,7 @@ impl DataLocals {
     }
 }
 
-/// The data locals of a body, in a program with these declarations.
-pub fn data_locals(alloc: Global, decls: &[Decl], body: &[Stmt]) -> Result<DataLocals, NoMemory>
-    ensures { IfOk result (λ locals. AreDataLocals (arrays_of decls.now) body.now locals) }
-{
-    let written = WrittenArrays::new(alloc, decls)?;
-    data_locals_of(alloc, &written, body)
-}
-
-/// The same, where the written arrays are known.
+/// The data locals of a body, in a program with these written arrays.
 pub(crate) fn data_locals_of(
     alloc: Global,
     written: &WrittenArrays,

@@ -6,7 +6,7 @@ use nest_syntax::{Arm, Loop, NoMemory, Program, Stmt};
 use std::alloc::Global;
 
 /// All loops of a program, its regions among them, in the order of the text.
-pub(crate) fn loops_of<'a>(alloc: Global, program: &'a Program) -> Result<Vec<&'a Loop>, NoMemory>
+pub fn loops_of<'a>(alloc: Global, program: &'a Program) -> Result<Vec<&'a Loop>, NoMemory>
     ensures { IfOk result (λ found. map (λ l. l.now) found.items ≡ loops_of program.now) }
 {
     let mut found = Vec::new(alloc);

@@ -9,9 +9,9 @@ use nest_syntax::{Decl, Expr, NoMemory};
 use std::alloc::Global;
 use std::marker::Model;
 
-/// The names of the written arrays, those that aren't `const`.
-#[derive(Drop)]
-pub(crate) struct WrittenArrays {
+/// The names of the written arrays of a program, those that aren't `const`.
+#[derive(Debug, Drop)]
+pub struct WrittenArrays {
     names: IndexSet<u32>,
 }
 
@@ -24,8 +24,8 @@ impl Model for WrittenArrays {
 }
 
 impl WrittenArrays {
-    // Where a name is declared twice its first declaration counts.
-    pub(crate) fn new(alloc: Global, decls: &[Decl]) -> Result<WrittenArrays, NoMemory>
+    /// The written arrays among these declarations. Where a name is declared twice its first declaration counts.
+    pub fn new(alloc: Global, decls: &[Decl]) -> Result<WrittenArrays, NoMemory>
         ensures { IfOk result (λ written. TellsWritten (arrays_of decls.now) written) }
     {
         let mut seen: IndexSet<u32> = IndexSet::new(alloc);
@@ -38,14 +38,15 @@ impl WrittenArrays {
         Ok(WrittenArrays { names })
     }
 
-    fn has(&self, name: u32) -> bool
+    /// Whether the array of this name is there and isn't `const`.
+    pub fn has(&self, name: u32) -> bool
         ensures { result ≡ is_among self.now name }
     {
         self.names.contains(&name)
     }
 
     /// Whether an expression names a written array.
-    pub(crate) fn are_named_in(&self, expr: &Expr) -> bool
+    pub fn are_named_in(&self, expr: &Expr) -> bool
         ensures { (arrays : List Array) → TellsWritten arrays self.now → result ≡ names_written arrays expr.now }
     {
         match expr {

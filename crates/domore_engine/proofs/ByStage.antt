@@ -9,8 +9,8 @@ use Rattle.nest_syntax.specs.Arrays.{word_at, with_word}
 use Rattle.settle_law.specs.Tasks as tasks
 use Rattle.progress_board.specs.declared.actors.Row.{Row}
 use Rattle.progress_board.specs.declared.actors.Row.TheVariants as board
-use Rattle.domore_core.specs.Machine.{Setup, Seat, Hand, Idle, Holding, Gone, Ticket, DoScalar, DoClose, DoDrain, DoDispatch, DoHalt, DoTake, DoPass, DoRead, DoWrite, DoGo, DoFinish, DoTrap, DoDropHeld, DoDropQueued, DoEnd, is_above, done_at, seat_at, worker_move, stop_move, move_of, state_after}
-use Rattle.domore_core.proofs.Guards.{Guard, guarded}
+use Rattle.domore_machine.specs.Machine.{Setup, Seat, Hand, Idle, Holding, Ended, Ticket, DoScalar, DoClose, DoDrain, DoDispatch, DoHalt, DoTake, DoPass, DoRead, DoWrite, DoGo, DoFinish, DoTrap, DoDropHeld, DoDropQueued, DoEnd, is_above, done_at, seat_at, worker_move, stop_move, move_of, state_after}
+use Rattle.domore_machine.proofs.Guards.{Guard, guarded}
 use Rattle.first_tasks.specs.declared.position.Iteration.{Iteration}
 use Rattle.first_tasks.specs.declared.position.Position.{Position}
 use Rattle.first_tasks.specs.declared.stop.Stop.{Stop}
@@ -43,7 +43,7 @@ module _ (p : Program) (form : IsFirstForm p) (width room : ℕ) (s : States) wh
   row-by_stage (Holding k (w ∷ left) piece) queue =
       map-if row_of (is_above s.trap k) (Some (DoDropHeld k)) (if nat_lt w.number (done_at s.seats w.worker) then Some (DoPass k w left piece) else None)
       ∙ ap (λ o. if is_above s.trap k then Some board.Drop else o) (map-if row_of (nat_lt w.number (done_at s.seats w.worker)) (Some (DoPass k w left piece)) None)
-  row-by_stage Gone queue = refl
+  row-by_stage Ended queue = refl
 
 -- a row is that of a move
 pub some_move : {A B : Type 0} (f : A → B) (o : Option A) (r : B) → option_map f o ≡ Some r → (x : A) × (o ≡ Some x) × (f x ≡ r)

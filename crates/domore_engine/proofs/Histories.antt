@@ -5,17 +5,17 @@ use Rattle.std.proofs.lemmas.Bool.{cond-true}
 use Rattle.nest_syntax.specs.declared.place.Place.{Place}
 use Rattle.nest_syntax.specs.declared.tree.Program.{Program}
 use Rattle.nest_syntax.specs.FirstForm.{IsFirstForm}
-use Rattle.nest_syntax.specs.Outcome.{Ending, Done, TrappedAt, ending}
+use Rattle.nest_syntax.specs.Outcome.{Done, TrappedAt, ending}
 use Rattle.nest_mean.specs.Nest.{Nest}
 use Rattle.settle_law.specs.Courses.{outcome}
 use Rattle.progress_board.specs.declared.options.Options.{Options}
 use Rattle.progress_board.specs.declared.facts.Ending.TheVariants as told
 use Rattle.progress_board.specs.Options.{IsInRange}
-use Rattle.domore_core.specs.Machine as machine
-use Rattle.domore_core.specs.Facts as facts
-use Rattle.domore_core.specs.Runs as runs
-use Rattle.domore_core.specs.Theorems.{KeepsOrder, Leads}
-use Rattle.domore_core.proofs.Runs.{ends_as, counts_as, keeps_order}
+use Rattle.domore_machine.specs.Machine as machine
+use Rattle.domore_machine.specs.Facts as facts
+use Rattle.domore_machine.specs.Runs as runs
+use Rattle.domore_machine.specs.Theorems.{KeepsOrder, Leads}
+use Rattle.domore_machine.proofs.Runs.{ends_as, counts_as, keeps_order}
 use Rattle.first_tasks.specs.declared.position.Iteration.{Iteration}
 use Rattle.first_tasks.specs.declared.position.Position.{Position}
 use Rattle.first_tasks.specs.declared.position.Position.TheVariants.{Region}

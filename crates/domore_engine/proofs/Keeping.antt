@@ -6,12 +6,12 @@ use Rattle.nest_syntax.specs.Arrays.{arrays_of, sizes_of}
 use Rattle.word_store.specs.Memory.{Memory}
 use Rattle.progress_board.specs.declared.actors.Row.{Row}
 use Rattle.progress_board.specs.declared.actors.Row.TheVariants as board
-use Rattle.domore_core.specs.Waits.{Wait}
+use Rattle.domore_machine.specs.Waits.{Wait}
 use Rattle.progress_board.specs.declared.actors.Made.{Made}
 use Rattle.progress_board.specs.declared.actors.Ask.TheVariants.{Ready}
 use Rattle.progress_board.specs.declared.actors.Work.TheVariants.{Turn}
-use Rattle.domore_core.specs.Machine.{Seat, Hand, Idle, Holding, Ticket, DoScalar, DoClose, DoDrain, DoDispatch, DoHalt, DoTake, DoPass, DoRead, DoWrite, DoGo, DoFinish, DoTrap, DoDropHeld, DoDropQueued, DoEnd, seat_at}
-use Rattle.domore_core.proofs.Guards.{Guard, guarded}
+use Rattle.domore_machine.specs.Machine.{Seat, Hand, Idle, Holding, Ticket, DoScalar, DoClose, DoDrain, DoDispatch, DoHalt, DoTake, DoPass, DoRead, DoWrite, DoGo, DoFinish, DoTrap, DoDropHeld, DoDropQueued, DoEnd, seat_at}
+use Rattle.domore_machine.proofs.Guards.{Guard, guarded}
 use Rattle.first_tasks.specs.declared.position.Iteration.{Iteration}
 use Rattle.first_tasks.specs.Pieces.{Piece}
 use Rattle.first_tasks.proofs.Forms.{own_form}

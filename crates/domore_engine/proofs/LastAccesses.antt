@@ -2,7 +2,7 @@
 use Rattle.std.proofs.Common.{◌≡◌, ℕ, zero, suc, ◌+◌, ◌*◌, ◌%◌, ◌≤◌, ◌<◌, max, Bool, true, false, ◌&&◌, ◌||◌, ◌==◌, if◌then◌else◌, Option, Some, None, List, [], ◌++◌, slice_index_or, refl, sym, ap, ◌∙◌, arith}
 use Rattle.std.proofs.lemmas.Bool.{and_right, cond-false}
 use Rattle.addr_slice.specs.Claims.{Claimed, has, is_set, words_of, clash_below, clashes}
-use Rattle.domore_core.specs.Waits.{Wait, wait_for, greatest, need, waits_with, waits_of}
+use Rattle.domore_machine.specs.Waits.{Wait, wait_for, greatest, need, waits_with, waits_of}
 use Rattle.domore_engine.specs.declared.shadow.Shadow.{Shadow}
 use Rattle.domore_engine.specs.Shadows.{IsNoted, later, last_below}
 

@@ -14,10 +14,10 @@ use Rattle.progress_board.specs.declared.actors.Row.{Row}
 use Rattle.progress_board.specs.declared.actors.Ask.TheVariants.{Ready}
 use Rattle.progress_board.specs.declared.actors.Work.TheVariants.{Turn}
 use Rattle.progress_board.proofs.Runs.{reached_step}
-use Rattle.domore_core.specs.Facts.{Facts}
-use Rattle.domore_core.specs.Machine.{Setup, State, DoScalar, DoClose, DoDrain, DoDispatch, DoHalt, DoTake, DoPass, DoRead, DoWrite, DoGo, DoFinish, DoTrap, DoDropHeld, DoDropQueued, DoEnd, scheduler_move, state_after}
-use Rattle.domore_core.specs.Machine as machine
-use Rattle.domore_core.proofs.Guards.{Guard}
+use Rattle.domore_machine.specs.Facts.{Facts}
+use Rattle.domore_machine.specs.Machine.{Setup, DoScalar, DoClose, DoDrain, DoDispatch, DoHalt, DoTake, DoPass, DoRead, DoWrite, DoGo, DoFinish, DoTrap, DoDropHeld, DoDropQueued, DoEnd, scheduler_move, state_after}
+use Rattle.domore_machine.specs.Machine as machine
+use Rattle.domore_machine.proofs.Guards.{Guard}
 use Rattle.first_tasks.specs.declared.position.Iteration.{Iteration}
 use Rattle.first_tasks.specs.declared.position.Position.{Position}
 use Rattle.first_tasks.specs.Form.{first_of, first_form, count_of}

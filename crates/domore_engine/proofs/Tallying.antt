@@ -7,30 +7,30 @@ use Rattle.std.proofs.lemmas.Bool.{cases_lt}
 use Rattle.std.proofs.lemmas.List.{length-replicate, length-map, length-take, take_all, take_at}
 use Rattle.progress_board.specs.declared.facts.Facts.{Facts as Report}
 use Rattle.progress_board.specs.declared.facts.Wait.{Wait as Place}
-use Rattle.domore_core.specs.Waits.{Wait}
-use Rattle.domore_core.specs.Facts.{Facts, Listed, listed_at, iterated}
+use Rattle.domore_machine.specs.Waits.{Wait}
+use Rattle.domore_machine.specs.Facts.{Facts, WaitLine, wait_line, iterated}
 use Rattle.domore_engine.specs.Reports.{wait_of, places_of, report_of}
 use Rattle.domore_engine.specs.Tallies.{Tallied, listed_in, tallied, IsTallied, with_wait, with_waits}
 
-abbrev placed : Listed → Option Place
+abbrev placed : WaitLine → Option Place
 placed l = Some (wait_of l)
 
 listed-nothing : (k : ℕ) → listed_in (replicate k None) ≡ []
 listed-nothing zero = refl
 listed-nothing (suc k) = listed-nothing k
 
-listed-padded : (xs : List Listed) (k : ℕ) → listed_in (map placed xs ++ replicate k None) ≡ xs
+listed-padded : (xs : List WaitLine) (k : ℕ) → listed_in (map placed xs ++ replicate k None) ≡ xs
 listed-padded [] k = listed-nothing k
 listed-padded (x ∷ xs) k = ap (λ ys. x ∷ ys) (listed-padded xs k)
 
-listed-places : (xs : List Listed) → listed_in (places_of xs) ≡ xs
+listed-places : (xs : List WaitLine) → listed_in (places_of xs) ≡ xs
 listed-places xs = listed-padded xs (64 - length xs)
 
-set-padded : (xs : List Listed) (k : ℕ) (y : Option Place) → set (map placed xs ++ replicate (suc k) None) (length xs) y ≡ map placed xs ++ y ∷ replicate k None
+set-padded : (xs : List WaitLine) (k : ℕ) (y : Option Place) → set (map placed xs ++ replicate (suc k) None) (length xs) y ≡ map placed xs ++ y ∷ replicate k None
 set-padded [] k y = refl
 set-padded (x ∷ xs) k y = ap (λ ys. placed x ∷ ys) (set-padded xs k y)
 
-map-push : (xs : List Listed) (x : Listed) (k : ℕ) → map placed xs ++ placed x ∷ replicate k None ≡ map placed (xs ++ x ∷ []) ++ replicate k None
+map-push : (xs : List WaitLine) (x : WaitLine) (k : ℕ) → map placed xs ++ placed x ∷ replicate k None ≡ map placed (xs ++ x ∷ []) ++ replicate k None
 map-push [] x k = refl
 map-push (y ∷ xs) x k = ap (λ ys. placed y ∷ ys) (map-push xs x k)
 
@@ -39,10 +39,10 @@ set-past [] i v past = refl
 set-past (x ∷ xs) zero v past = absurd (omega arith)
 set-past (x ∷ xs) (suc i) v past = ap (λ ys. x ∷ ys) (set-past xs i v (omega arith))
 
-length-places : (xs : List Listed) → length xs ≤ 64 → length (places_of xs) ≡ 64
+length-places : (xs : List WaitLine) → length xs ≤ 64 → length (places_of xs) ≡ 64
 length-places xs few = length-append (map placed xs) (replicate (64 - length xs) None) ∙ (let n : length (map placed xs) ≡ length xs = length-map xs placed in let k : length (replicate {A = Option Place} (64 - length xs) None) ≡ 64 - length xs = length-replicate (64 - length xs) None in let all : length (map placed xs) + length (replicate {A = Option Place} (64 - length xs) None) ≡ 64 = omega arith in all)
 
-pub listed_more : (xs : List Listed) (waits : ℕ) (x : Listed) → length xs ≡ min waits 64 → set (places_of xs) waits (placed x) ≡ places_of (take 64 (xs ++ x ∷ []))
+pub listed_more : (xs : List WaitLine) (waits : ℕ) (x : WaitLine) → length xs ≡ min waits 64 → set (places_of xs) waits (placed x) ≡ places_of (take 64 (xs ++ x ∷ []))
 listed_more xs waits x count = ⊎_elim room full (cases_lt waits 64)
   where
     room : waits < 64 → set (places_of xs) waits (placed x) ≡ places_of (take 64 (xs ++ x ∷ []))
@@ -65,11 +65,11 @@ listed_more xs waits x count = ⊎_elim room full (cases_lt waits 64)
         ∙ ap places_of (sym (take_at xs (x ∷ []) 64 all))
 
 module _ (report : Report) (first number : ℕ) (w : Wait) (kept : IsTallied report (tallied report first)) where
-  abbrev xs : List Listed
+  abbrev xs : List WaitLine
   xs = listed_in report.first_waits
 
-  abbrev one : Listed
-  one = listed_at number first w
+  abbrev one : WaitLine
+  one = wait_line number first w
 
   abbrev pub after : Report
   after = record report { waits = report.waits + 1; crossing = report.crossing + (if nat_lt w.number first then 1 else 0); first_waits = set report.first_waits report.waits (placed one) }
@@ -91,7 +91,7 @@ module _ (report : Report) (first number : ℕ) (w : Wait) (kept : IsTallied rep
   note_is =
       let more : report.waits + 1 ≡ suc report.waits = omega arith in
       ap (λ (n : ℕ). let t : Tallied = record (tallied after first) { facts = record (tallied after first).facts { waits = n } } in t) more
-      ∙ ap (λ (l : List Listed). let t : Tallied = record (tallied after first) { facts = record (tallied after first).facts { waits = suc report.waits; listed = l } } in t) listed-after
+      ∙ ap (λ (l : List WaitLine). let t : Tallied = record (tallied after first) { facts = record (tallied after first).facts { waits = suc report.waits; first_waits = l } } in t) listed-after
 
 take-first : {A : Type 0} (n : ℕ) (xs ys : List A) → take n (take n xs ++ ys) ≡ take n (xs ++ ys)
 take-first zero front back = refl
@@ -103,24 +103,24 @@ handed facts = record facts { iterations = suc facts.iterations }
 
 more_waits : (number : ℕ) (facts : Facts) (w : Wait) (waits : List Wait) → iterated number waits (with_wait number facts w) ≡ iterated number (w ∷ waits) facts
 more_waits number facts w waits =
-    let l = listed_at number facts.first w in
-    let ls = map (listed_at number facts.first) waits in
+    let l = wait_line number facts.first w in
+    let ls = map (wait_line number facts.first) waits in
     let counts : suc facts.waits + length waits ≡ facts.waits + suc (length waits) = omega arith in
-    let crosses : facts.crossing + (if nat_lt w.number facts.first then 1 else 0) + count_by (λ (x : Listed). x.crossing) ls ≡ facts.crossing + count_by (λ (x : Listed). x.crossing) (l ∷ ls) =
-    omega (arith, sum_by-cons (λ (x : Listed). if x.crossing then 1 else 0) l ls) in
-    let lists : take 64 (take 64 (facts.listed ++ l ∷ []) ++ ls) ≡ take 64 (facts.listed ++ l ∷ ls) = take-first 64 (facts.listed ++ l ∷ []) ls ∙ ap (take 64) (append_assoc facts.listed (l ∷ []) ls) in
+    let crosses : facts.crossing + (if nat_lt w.number facts.first then 1 else 0) + count_by (λ (x : WaitLine). x.crossing) ls ≡ facts.crossing + count_by (λ (x : WaitLine). x.crossing) (l ∷ ls) =
+    omega (arith, sum_by-cons (λ (x : WaitLine). if x.crossing then 1 else 0) l ls) in
+    let lists : take 64 (take 64 (facts.first_waits ++ l ∷ []) ++ ls) ≡ take 64 (facts.first_waits ++ l ∷ ls) = take-first 64 (facts.first_waits ++ l ∷ []) ls ∙ ap (take 64) (append_assoc facts.first_waits (l ∷ []) ls) in
     ap (λ (n : ℕ). let f : Facts = record (iterated number waits (with_wait number facts w)) { waits = n } in f) counts
     ∙ ap (λ (n : ℕ). let f : Facts = record (iterated number waits (with_wait number facts w)) { waits = facts.waits + suc (length waits); crossing = n } in f) crosses
-    ∙ ap (λ (k : List Listed). let f : Facts = record (iterated number (w ∷ waits) facts) { listed = k } in f) lists
+    ∙ ap (λ (k : List WaitLine). let f : Facts = record (iterated number (w ∷ waits) facts) { first_waits = k } in f) lists
 
-with_waits-is : (number : ℕ) (waits : List Wait) (facts : Facts) → length (with_waits number facts waits).listed ≤ 64 → handed (with_waits number facts waits) ≡ iterated number waits facts
+with_waits-is : (number : ℕ) (waits : List Wait) (facts : Facts) → length (with_waits number facts waits).first_waits ≤ 64 → handed (with_waits number facts waits) ≡ iterated number waits facts
 with_waits-is number [] facts few =
     let counts : facts.waits ≡ facts.waits + 0 = omega arith in
     let crosses : facts.crossing ≡ facts.crossing + 0 = omega arith in
-    let lists : facts.listed ≡ take 64 (facts.listed ++ []) = sym (ap (take 64) (append-nil facts.listed) ∙ take_all 64 facts.listed few) in
+    let lists : facts.first_waits ≡ take 64 (facts.first_waits ++ []) = sym (ap (take 64) (append-nil facts.first_waits) ∙ take_all 64 facts.first_waits few) in
     ap (λ (n : ℕ). let f : Facts = record (handed facts) { waits = n } in f) counts
     ∙ ap (λ (n : ℕ). let f : Facts = record (handed facts) { waits = facts.waits + 0; crossing = n } in f) crosses
-    ∙ ap (λ (k : List Listed). let f : Facts = record (handed facts) { waits = facts.waits + 0; crossing = facts.crossing + 0; listed = k } in f) lists
+    ∙ ap (λ (k : List WaitLine). let f : Facts = record (handed facts) { waits = facts.waits + 0; crossing = facts.crossing + 0; first_waits = k } in f) lists
 with_waits-is number (w ∷ waits) facts few = with_waits-is number waits (with_wait number facts w) few ∙ more_waits number facts w waits
 
 -- all waits are listed, and the iteration is counted
@@ -128,8 +128,8 @@ pub handed_out : (report : Report) (first number : ℕ) (old : Tallied) (waits l
     → (let t : Tallied = record { options = (tallied report first).options; facts = handed (tallied report first).facts } in t) ≡ record old { facts = iterated number waits old.facts }
 handed_out report first number old waits left kept none options same =
     let done : (tallied report first).facts ≡ with_waits number old.facts waits = ap (with_waits number (tallied report first).facts) (sym none) ∙ same in
-    let few : length (tallied report first).facts.listed ≤ 64 = omega (arith, kept.count) in
-    let fits : length (with_waits number old.facts waits).listed ≤ 64 = subst (λ (f : Facts). length f.listed ≤ 64) done few in
+    let few : length (tallied report first).facts.first_waits ≤ 64 = omega (arith, kept.count) in
+    let fits : length (with_waits number old.facts waits).first_waits ≤ 64 = subst (λ (f : Facts). length f.first_waits ≤ 64) done few in
     ap (λ (o : Options). let t : Tallied = record { options = o; facts = handed (tallied report first).facts } in t) options
     ∙ ap (λ (f : Facts). let t : Tallied = record { options = old.options; facts = handed f } in t) done
     ∙ ap (λ (f : Facts). let t : Tallied = record { options = old.options; facts = f } in t) (with_waits-is number waits old.facts fits)

@@ -17,11 +17,11 @@ use Rattle.progress_board.specs.declared.actors.Made.{Made}
 use Rattle.progress_board.specs.declared.facts.Ending.{Ending}
 use Rattle.progress_board.specs.declared.facts.Ending.TheVariants.{Unfinished, Done, Trapped}
 use Rattle.progress_board.specs.declared.facts.Facts.{Facts as Report}
-use Rattle.domore_core.specs.Machine.{Setup, State, Move, DoScalar, DoClose, DoDrain, DoDispatch, DoHalt, DoTake, DoPass, DoRead, DoWrite, DoGo, DoFinish, DoTrap, DoDropHeld, DoDropQueued, DoEnd}
-use Rattle.domore_core.specs.Machine as machine
-use Rattle.domore_core.specs.Rows as rows
-use Rattle.domore_core.specs.Runs as runs
-use Rattle.domore_core.specs.Measure as measures
+use Rattle.domore_machine.specs.Machine.{Setup, State, Move, DoTake, DoPass, DoRead, DoWrite, DoGo, DoFinish, DoTrap, DoDropHeld, DoDropQueued, DoEnd}
+use Rattle.domore_machine.specs.Machine as machine
+use Rattle.domore_machine.specs.Rows as rows
+use Rattle.domore_machine.specs.Runs as runs
+use Rattle.domore_machine.specs.Measure as measures
 use Rattle.first_tasks.specs.declared.position.Iteration.{Iteration}
 use Rattle.first_tasks.specs.declared.position.Position.{Position}
 use Rattle.first_tasks.specs.declared.position.Position.TheVariants.{Region}

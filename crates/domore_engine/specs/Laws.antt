@@ -10,11 +10,11 @@ use Rattle.progress_board.specs.Options.{IsInRange}
 use Rattle.progress_board.specs.Actors.{actors_of, is_ready, SomeEnabled, AllEnded}
 use Rattle.settle_law.specs.Runs.{run}
 use Rattle.progress_board.specs.Runs.{IsReached, IsLegal}
-use Rattle.domore_core.specs.Machine as machine
-use Rattle.domore_core.specs.Theorems.{IsSetupFor, Leads}
-use Rattle.domore_core.proofs.Falls as falling
-use Rattle.domore_core.proofs.Progress.{goes_on}
-use Rattle.domore_core.proofs.Ended as ended
+use Rattle.domore_machine.specs.Machine as machine
+use Rattle.domore_machine.specs.Theorems.{IsSetupFor, Leads}
+use Rattle.domore_machine.proofs.Falls as falling
+use Rattle.domore_machine.proofs.Progress.{goes_on}
+use Rattle.domore_machine.proofs.Ended as ended
 use Rattle.first_tasks.specs.declared.position.Iteration.{Iteration}
 use Rattle.first_tasks.specs.declared.position.Position.{Position}
 use Rattle.first_tasks.specs.declared.position.Position.TheVariants.{Region}
@@ -64,8 +64,8 @@ led (actor ∷ history) e f is = go (machine.step (setup_in e) e.state actor) re
         let rest = later s made in
         record { state = rest.state; leads = ap (λ (o : Option Table). option_and_then (λ (t : Table). run (machine.step (setup_in e)) t history) o) known ∙ rest.leads; new = rest.new }
 
--- The setup of a job is right. A legal state doesn't say of its program that it is of the first form, so each program
--- counts as one here.
+-- The setup of a job is right. A legal state's program keeps the rules, but that doesn't make it one of the first form,
+-- so each program counts as one here. A claim of the job's own outcome asks for the form.
 pub setup_right : (job : Nest) (options : Options) → IsInRange options → IsSetupFor (setup_of job options) (nest_in job) (what_in (program_in job)) Region
 setup_right job options allowed = right (program_in job) (form_of job.program) job.opening.words options.workers options.queue (omega (arith, allowed.some_worker)) (omega (arith, allowed.some_room))
 

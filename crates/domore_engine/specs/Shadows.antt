@@ -2,7 +2,7 @@
 -- writing. Each iteration has a set of claims, by its number.
 use Rattle.std.specs.Prelude.{◌≡◌, ℕ, zero, suc, ◌+◌, ◌*◌, ◌%◌, ◌<◌, Bool, true, false, ◌&&◌, ◌==◌, if◌then◌else◌, nat_lt, Option, Some, None, length, slice_index_or, max}
 use Rattle.addr_slice.specs.Claims.{Claimed, has, is_claimed, words_of}
-use Rattle.domore_core.specs.Waits.{greatest}
+use Rattle.domore_machine.specs.Waits.{greatest}
 use Rattle.domore_engine.specs.declared.shadow.Shadow.{Shadow}
 
 -- the last iteration below n of worker u that claims the word so

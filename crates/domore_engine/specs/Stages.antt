@@ -11,7 +11,7 @@ use Rattle.progress_board.specs.declared.actors.Row.TheVariants.{Trap as Traps}
 use Rattle.first_tasks.specs.declared.position.Position.{Position}
 use Rattle.first_tasks.specs.declared.stop.Stop.{Stop}
 use Rattle.first_tasks.specs.declared.stop.Stop.TheVariants.{Load, Store, Finish, Trap}
-use Rattle.domore_core.specs.Machine.{State, Seat, Hand, Idle, Holding, Gone, Ticket, is_above, done_at}
+use Rattle.domore_machine.specs.Machine.{State, Seat, Hand, Idle, Holding, Ticket, is_above, done_at}
 use Rattle.first_tasks.specs.declared.position.Iteration.{Iteration}
 use Rattle.first_tasks.specs.Pieces.{Piece}
 use Rattle.domore_engine.specs.declared.stage.Stage.{Stage}
@@ -22,7 +22,7 @@ stage_in Idle [] = Free
 stage_in Idle (ticket ∷ queue) = Next ticket.number
 stage_in (Holding number [] piece) queue = Standing number
 stage_in (Holding number (w ∷ left) piece) queue = Waiting number w
-stage_in Gone queue = Ended
+stage_in _ queue = Ended
 
 abbrev pub stage_of : Seat Iteration Piece → Stage
 stage_of seat = stage_in seat.hand seat.queue
@@ -46,14 +46,14 @@ stop_row (Trap cause line) = Traps
 abbrev pub standing_in : Program → Hand Piece → Option Row
 standing_in program Idle = None
 standing_in program (Holding number left piece) = option_map stop_row (stop_told (stop_of program piece))
-standing_in program Gone = None
+standing_in program _ = None
 
 -- the number of the held iteration, and else of the first ticket
 abbrev pub number_in : Hand Piece → List (Ticket Iteration) → ℕ
 number_in Idle [] = 0
 number_in Idle (ticket ∷ queue) = ticket.number
 number_in (Holding number left piece) queue = number
-number_in Gone queue = 0
+number_in _ queue = 0
 
 abbrev pub number_at : Seat Iteration Piece → ℕ
 number_at seat = number_in seat.hand seat.queue

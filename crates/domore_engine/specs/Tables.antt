@@ -2,9 +2,9 @@
 use Rattle.std.specs.Prelude.{◌≡◌, ℕ, ◌+◌, ◌*◌, ◌≤◌, ◌<◌, [], length}
 use Rattle.nest_syntax.specs.declared.tree.Program.{Program}
 use Rattle.nest_syntax.specs.FirstForm.{First}
-use Rattle.nest_syntax.specs.Arrays.{arrays_of, sizes_of}
-use Rattle.domore_core.specs.Machine.{State, Seat, Idle}
-use Rattle.domore_core.specs.Facts.{Facts}
+use Rattle.word_store.specs.Memory.{HasLayout}
+use Rattle.domore_machine.specs.Machine.{State, Seat, Idle}
+use Rattle.domore_machine.specs.Facts.{Facts}
 use Rattle.first_tasks.specs.declared.position.Iteration.{Iteration}
 use Rattle.first_tasks.specs.declared.position.Position.{Position}
 use Rattle.first_tasks.specs.declared.position.Position.TheVariants as position
@@ -48,7 +48,7 @@ pub record IsSound (program : Program) (width : ℕ) (table : Table) : Type 0 wh
   pub few_workers : width ≤ 8
   pub some_worker : 0 < width
   pub seats : length table.seats.items ≡ width
-  pub sizes : table.words.sizes ≡ sizes_of (arrays_of program.decls)
+  pub sizes : HasLayout table.words program.decls
   pub placed : IsPlaced (first_of program) table.cursor table.next table.tally.facts
   pub noted : IsNoted (claims_numbered program) (first_of program).length width table.next table.shadow
 

@@ -9,10 +9,10 @@ use Rattle.progress_board.specs.declared.options.Options.{Options}
 use Rattle.progress_board.specs.declared.facts.Facts.{Facts}
 use Rattle.progress_board.specs.declared.facts.Ending.TheVariants as told
 use Rattle.progress_board.specs.Options.{IsInRange}
-use Rattle.domore_core.specs.Machine.{waits}
-use Rattle.domore_core.specs.Facts.{facts_of}
-use Rattle.domore_core.specs.Runs.{trace_from}
-use Rattle.domore_core.specs.Theorems.{KeepsOrder}
+use Rattle.domore_machine.specs.Machine.{waits}
+use Rattle.domore_machine.specs.Facts.{facts_of}
+use Rattle.domore_machine.specs.Runs.{trace_from}
+use Rattle.domore_machine.specs.Theorems.{KeepsOrder}
 use Rattle.domore_engine.specs.Engine.{Engine, setup_of, nest_in, opening, step, is_finished, ending_of, words_of}
 use Rattle.domore_engine.specs.Engine as engine
 use Rattle.domore_engine.specs.Reports.{report_of}

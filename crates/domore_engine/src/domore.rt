@@ -1,13 +1,13 @@
 ghost use Rattle.std.specs.Prelude.{◌≡◌, ◌<◌, ◌↔◌, IfOk, Some, IsSome, false, replicate};
 ghost use Rattle.std.specs.Option.{option_map};
 ghost use Rattle.nest_syntax.specs.FirstForm.{IsFirstForm};
+ghost use Rattle.word_store.specs.Memory.{HasLayout};
 ghost use Rattle.nest_mean.specs.Nest.{CanRun};
 ghost use Rattle.progress_board.specs.Options.{IsInRange};
-ghost use Rattle.domore_core.specs.Machine as machine;
-ghost use Rattle.domore_engine.specs.Engine.{opening, step, asked, made_by, move_of, row_of, setup_of, program_in, has_ended, is_finished, words_of, facts_of, ending_of};
+ghost use Rattle.domore_machine.specs.Machine as machine;
+ghost use Rattle.domore_engine.specs.Engine.{opening, step, made_by, move_of, row_of, setup_of, program_in, has_ended, is_finished, words_of, facts_of, ending_of};
 ghost use Rattle.domore_engine.specs.Tables.{state_of, IsSound, idle_seat};
 ghost use Rattle.progress_board.specs.Runs.{IsLegal};
-ghost use Rattle.nest_syntax.specs.Arrays.{arrays_of, sizes_of};
 
 use crate::seat::Seat;
 use crate::shadow::Shadow;
@@ -126,7 +126,7 @@ impl Domore {
         ensures { result ≡ has_ended self.now actor }
     {
         if actor < self.options.workers {
-            self.table.is_gone(actor)
+            self.table.is_ended(actor)
         } else {
             actor != self.options.workers || self.table.halted
         }
@@ -136,7 +136,7 @@ impl Domore {
         ensures over { result ≡ is_finished self.now }
         ensures legal { IsLegal (λ m. m.job) (λ m. m.options) opening step self.now }
     {
-        self.table.halted && self.table.all_gone()
+        self.table.halted && self.table.ended_are_over()
     }
 
     /// The opening state, with no iteration handed out. All its memory is taken here.
@@ -199,7 +199,7 @@ fn open_seats(alloc: Global, workers: u8) -> Result<Vec<Seat>, NoMemory>
 fn step_table(job: &mut Job, options: Options, table: &mut Table, actor: u8, row: Row)
     requires form { IsFirstForm job.old.program }
     requires allowed { IsInRange options }
-    requires sizes { job.old.opening.sizes ≡ sizes_of (arrays_of (program_in job.old).decls) }
+    requires sizes { HasLayout job.old.opening (program_in job.old).decls }
     requires sound { IsSound (program_in job.old) options.workers table.old }
     requires enabled { option_map row_of (machine.move_of (setup_of job.old options) (state_of table.old) actor) ≡ Some row }
     ensures job { job.new ≡ job.old }

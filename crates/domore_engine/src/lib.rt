@@ -1,7 +1,7 @@
 //! The engine that keeps textual order without a barrier, for programs of the first form.
 //!
 //! In come a job and options, out comes a machine: a scheduler hands iterations out with what they wait for, and each
-//! worker carries out its own. It is the abstract machine of `domore_core`, on the iterations of `first_tasks`.
+//! worker carries out its own. It is the abstract machine of `domore_machine`, on the iterations of `first_tasks`.
 //! `histories_end_as_job` and `histories_keep_order` are laws on all its histories.
 #![tactic(auto)]
 

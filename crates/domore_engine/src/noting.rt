@@ -1,7 +1,7 @@
 ghost use Rattle.std.specs.Prelude.{◌≡◌, ◌<◌, ◌≤◌, ◌%◌, ◌*◌, if◌then◌else◌, ℕ, suc, length, sum, IfOk, Some, None, slice_set, slice_index_or};
 ghost use Rattle.word_store.specs.Memory.{most_words};
 ghost use Rattle.addr_slice.specs.Claims.{Claimed, words_of, clashes};
-ghost use Rattle.domore_core.specs.Waits.{waits_of, waits_with};
+ghost use Rattle.domore_machine.specs.Waits.{waits_of, waits_with};
 ghost use Rattle.domore_engine.specs.Shadows.{IsNoted, later, last_clash, last_below, IsUpdated};
 
 use crate::shadow::Shadow;

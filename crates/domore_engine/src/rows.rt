@@ -1,7 +1,7 @@
 ghost use Rattle.std.specs.Prelude.{◌≡◌, ◌<◌, ◌%◌, if◌then◌else◌, nat_lt, length, Some, None};
 ghost use Rattle.std.specs.Option.{option_map};
 ghost use Rattle.nest_syntax.specs.FirstForm.{IsFirstForm};
-ghost use Rattle.domore_core.specs.Machine as machine;
+ghost use Rattle.domore_machine.specs.Machine as machine;
 ghost use Rattle.first_tasks.specs.Form.{first_of, first_form};
 ghost use Rattle.first_tasks.specs.Positions.{event_at};
 ghost use Rattle.first_tasks.specs.Setups.{setup};
@@ -145,19 +145,19 @@ impl Table {
         }
     }
 
-    pub(crate) fn is_gone(&self, worker: u8) -> bool
-        ensures { result ≡ machine.is_gone (machine.seat_at self.now.seats.items worker).hand }
+    pub(crate) fn is_ended(&self, worker: u8) -> bool
+        ensures { result ≡ machine.is_ended (machine.seat_at self.now.seats.items worker).hand }
     {
         match self.seats.get(worker as usize) {
-            Some(seat) => seat.is_gone(),
+            Some(seat) => seat.is_ended(),
             None => true,
         }
     }
 
-    pub(crate) fn all_gone(&self) -> bool
-        ensures { result ≡ list_all (λ (s : machine.Seat Body Done). machine.is_gone s.hand) self.now.seats.items }
+    pub(crate) fn ended_are_over(&self) -> bool
+        ensures { result ≡ list_all (λ (s : machine.Seat Body Done). machine.is_ended s.hand) self.now.seats.items }
     {
-        self.seats.iter().all(|seat| seat.is_gone())
+        self.seats.iter().all(|seat| seat.is_ended())
     }
 
     // A number is above the trap where a trap is kept and its number is less.

@@ -1,6 +1,6 @@
 ghost use Rattle.std.specs.Prelude.{◌≡◌, ◌<◌, ◌+◌, ◌++◌, ◌^◌, ℕ, suc, true, List, [], ◌∷◌, length, IfOk, IfSome, None};
-ghost use Rattle.domore_core.specs.Machine as machine;
-ghost use Rattle.domore_core.specs.Waits.{Wait as On};
+ghost use Rattle.domore_machine.specs.Machine as machine;
+ghost use Rattle.domore_machine.specs.Waits.{Wait as On};
 ghost use Rattle.first_tasks.specs.declared.position.Iteration.{Iteration as Body};
 ghost use Rattle.first_tasks.specs.Pieces.{Piece as Done, entry};
 ghost use Rattle.nest_syntax.specs.FirstForm.{IsFirstForm};
@@ -35,7 +35,7 @@ impl Model for Seat {
     ghost use Rattle.std.specs.VecDeque.{deque_capacity};
     ghost use Rattle.first_tasks.specs.declared.position.Iteration.{Iteration as Body};
     ghost use Rattle.first_tasks.specs.Pieces.{Piece as Done};
-    ghost use Rattle.domore_core.specs.Machine.{Seat as Place};
+    ghost use Rattle.domore_machine.specs.Machine.{Seat as Place};
     ghost use Rattle.domore_engine.specs.Hands.{hand_of, IsSmall};
 
     ghost Value = { Place Body Done };
@@ -69,8 +69,8 @@ impl Seat {
         self.queue.len()
     }
 
-    pub(crate) fn is_gone(&self) -> bool
-        ensures { result ≡ machine.is_gone self.now.hand }
+    pub(crate) fn is_ended(&self) -> bool
+        ensures { result ≡ machine.is_ended self.now.hand }
     {
         matches!(self.hand, Held::Ended)
     }
@@ -96,7 +96,7 @@ impl Seat {
         requires { IsFirstForm program.now }
         ensures is { (k : ℕ) (left : List On) (p : Done) → self.now.hand ≡ machine.Holding k left p → result ≡ stop_told (stop_of (first_form program.now) p) }
         ensures none { self.now.hand ≡ machine.Idle → result ≡ None }
-        ensures ended { self.now.hand ≡ machine.Gone → result ≡ None }
+        ensures ended { self.now.hand ≡ machine.Ended → result ≡ None }
         ensures possible { (k : ℕ) (left : List On) (p : Done) → self.now.hand ≡ machine.Holding k left p → IfSome result (IsPossible (first_of (first_form program.now)).length 13 (length p.reads)) }
     {
         match &self.hand {
@@ -218,7 +218,7 @@ impl Seat {
     }
 
     pub(crate) fn end(&mut self)
-        ensures { self.new ≡ record self.old { hand = machine.Gone } }
+        ensures { self.new ≡ record self.old { hand = machine.Ended } }
     {
         self.hand = Held::Ended;
     }

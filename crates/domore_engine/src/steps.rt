@@ -5,8 +5,8 @@ ghost use Rattle.nest_syntax.specs.declared.operators.Cause.{Cause as Why};
 ghost use Rattle.nest_syntax.specs.FirstForm.{IsFirstForm};
 ghost use Rattle.nest_syntax.specs.Arrays.{word_at, with_word};
 ghost use Rattle.nest_syntax.specs.Outcome.{place_of_trap};
-ghost use Rattle.domore_core.specs.Machine as machine;
-ghost use Rattle.domore_core.specs.Waits.{Wait as On};
+ghost use Rattle.domore_machine.specs.Machine as machine;
+ghost use Rattle.domore_machine.specs.Waits.{Wait as On};
 ghost use Rattle.first_tasks.specs.declared.position.Iteration.{Iteration as Body};
 ghost use Rattle.first_tasks.specs.Form.{first_of, first_form};
 ghost use Rattle.first_tasks.specs.Pieces.{Piece as Done, entry, stop_of};
@@ -93,7 +93,7 @@ impl Table {
 
     fn end(&mut self, worker: u8)
         requires { worker < length self.old.seats.items }
-        ensures state { state_of self.new ≡ record (state_of self.old) { seats = slice_set self.old.seats.items worker (record (machine.seat_at self.old.seats.items worker) { hand = machine.Gone }) } }
+        ensures state { state_of self.new ≡ record (state_of self.old) { seats = slice_set self.old.seats.items worker (record (machine.seat_at self.old.seats.items worker) { hand = machine.Ended }) } }
         ensures same { IsSame self.old self.new }
     {
         self.seats[worker as usize].end();
@@ -128,7 +128,7 @@ impl Table {
         ensures is { (k : ℕ) (p : Done) → (machine.seat_at self.now.seats.items worker).hand ≡ machine.Holding k [] p → result ≡ stop_told (stop_of (first_form program.now) p) }
         ensures possible { (k : ℕ) (left : List On) (p : Done) → (machine.seat_at self.now.seats.items worker).hand ≡ machine.Holding k left p → IfSome result (IsPossible (first_of (first_form program.now)).length 13 (length p.reads)) }
         ensures idle { (machine.seat_at self.now.seats.items worker).hand ≡ machine.Idle → result ≡ None }
-        ensures gone { (machine.seat_at self.now.seats.items worker).hand ≡ machine.Gone → result ≡ None }
+        ensures ended { (machine.seat_at self.now.seats.items worker).hand ≡ machine.Ended → result ≡ None }
     {
         self.seats[worker as usize].stop(program)
     }

@@ -1,6 +1,6 @@
 ghost use Rattle.std.specs.Prelude.{◌≡◌, ◌<◌, ◌+◌, ◌≤◌, ◌^◌, suc, length, slice_set, Some, if◌then◌else◌};
 ghost use Rattle.nest_syntax.specs.Course.{Header};
-ghost use Rattle.domore_core.specs.Facts.{no_facts, computed, iterated};
+ghost use Rattle.domore_machine.specs.Facts.{no_facts, computed, iterated};
 ghost use Rattle.domore_engine.specs.Reports.{report_of};
 ghost use Rattle.domore_engine.specs.Tallies.{with_wait};
 

@@ -1,7 +1,7 @@
 ghost use Rattle.std.specs.Prelude.{◌≡◌, ◌≤◌, ◌<◌, suc, Some, length};
 ghost use Rattle.nest_syntax.specs.FirstForm.{IsFirstForm};
 ghost use Rattle.addr_slice.specs.Claims.{words_of, no_claims, with_claims, clashes};
-ghost use Rattle.domore_core.specs.Waits.{waits_of};
+ghost use Rattle.domore_machine.specs.Waits.{waits_of};
 ghost use Rattle.first_tasks.specs.Form.{first_of, first_form, turns_told};
 ghost use Rattle.first_tasks.specs.Pieces.{stop_of};
 ghost use Rattle.first_tasks.specs.Iterations.{iteration_numbered};

@@ -14,7 +14,7 @@ pub struct Ticket {
 impl Model for Ticket {
     ghost use Rattle.std.specs.Prelude.{◌<◌, ◌^◌};
     ghost use Rattle.first_tasks.specs.declared.position.Iteration.{Iteration as Body};
-    ghost use Rattle.domore_core.specs.Machine.{Ticket as Put};
+    ghost use Rattle.domore_machine.specs.Machine.{Ticket as Put};
 
     ghost Value = { Put Body };
 

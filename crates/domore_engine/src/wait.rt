@@ -8,7 +8,7 @@ pub struct Wait {
 }
 
 impl Model for Wait {
-    ghost use Rattle.domore_core.specs.Waits.{Wait as On};
+    ghost use Rattle.domore_machine.specs.Waits.{Wait as On};
 
     ghost Value = { On };
 

@@ -4,8 +4,8 @@ use Rattle.nest_syntax.specs.declared.tree.Program.{Program}
 use Rattle.nest_syntax.specs.FirstForm.{IsFirstForm}
 use Rattle.addr_slice.specs.Claims.{clashes}
 use Rattle.settle_law.specs.Courses.{nest_of}
-use Rattle.domore_core.specs.Machine.{Setup}
-use Rattle.domore_core.specs.Theorems.{IsSetupFor}
+use Rattle.domore_machine.specs.Machine.{Setup}
+use Rattle.domore_machine.specs.Theorems.{IsSetupFor}
 use Rattle.first_tasks.specs.declared.position.Iteration.{Iteration}
 use Rattle.first_tasks.specs.declared.position.Position.{Position}
 use Rattle.first_tasks.specs.declared.position.Position.TheVariants.{Region}

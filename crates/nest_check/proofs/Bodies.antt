@@ -1,12 +1,12 @@
 -- There are no more bodies than items, and so at most 4,096 of them.
-use Rattle.std.proofs.Common.{◌≡◌, ℕ, suc, ◌*◌, ◌≤◌, Bool, true, false, if◌then◌else◌, List, [], ◌∷◌, ◌++◌, map, length, refl, ap, arith, length-append}
+use Rattle.std.proofs.Common.{◌≡◌, suc, ◌*◌, ◌≤◌, Bool, true, false, if◌then◌else◌, List, [], ◌∷◌, ◌++◌, map, length, refl, ap, arith, length-append}
 use Rattle.std.specs.List.{flat_map, filter}
 use Rattle.std.proofs.lemmas.Bool.{ltb-false}
 use Rattle.nest_syntax.specs.declared.tree.Loop.{Loop}
 use Rattle.nest_syntax.specs.declared.tree.Program.{Program}
 use Rattle.nest_syntax.specs.Shape.{Body, Entry, Plain, Declares, Invokes, items_of, invoked_in, invoked_in_region, invoked_by, statements_of_each, bodies_of}
-use Rattle.lowest_line.specs.Lowest.{lines_where}
-use Rattle.data_local.specs.Bounds.{line_of}
+use Rattle.nest_syntax.specs.Lowest.{lines_where}
+use Rattle.data_local.specs.Loops.{line_of}
 use Rattle.nest_check.specs.Rules.{has_many_items}
 use Rattle.nest_check.specs.Kept.{KeepsRules}
 use Rattle.nest_check.proofs.Judged.{few_regions}

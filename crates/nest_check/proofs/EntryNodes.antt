@@ -1,5 +1,5 @@
 -- The statements of a statement, an arm and a loop, as equations.
-use Rattle.std.proofs.Common.{◌≡◌, ℕ, Bool, false, ◌||◌, nat_lt, List, [], ◌∷◌, ◌++◌, length, sym, ap, ◌∙◌}
+use Rattle.std.proofs.Common.{◌≡◌, ℕ, false, ◌||◌, nat_lt, List, [], ◌∷◌, ◌++◌, length, sym, ap, ◌∙◌}
 use Rattle.std.specs.List.{flat_map}
 use Rattle.std.proofs.lemmas.List.Folds.{flat_map-map}
 use Rattle.nest_syntax.specs.declared.names.Line.{Line}
@@ -13,7 +13,7 @@ use Rattle.nest_syntax.specs.declared.tree.Stmt.TheVariants as stmt
 use Rattle.nest_syntax.specs.declared.tree.Stmt.TheVariants.{rolls-Write, rolls-If}
 use Rattle.nest_syntax.specs.declared.tree.Stmt.TheFolds.{fold_out-Arm, fold_out-Loop, fold-roll-Stmt}
 use Rattle.nest_syntax.specs.Shape.{Entry, Plain, Declares, Invokes, body_of_write, declarations_in}
-use Rattle.lowest_line.specs.Lowest.{lower_if}
+use Rattle.nest_syntax.specs.Lowest.{lower_if}
 use Rattle.nest_check.specs.declared.items.Sizes.{Sizes}
 use Rattle.nest_check.specs.Declarations.{first_of_each}
 use Rattle.nest_check.specs.Entries.{statements, statements_of, statements_in_arm, statements_in_loop, statements_node, arm_statements_node, loop_statements_node}

@@ -8,7 +8,7 @@ use Rattle.nest_syntax.specs.declared.tree.Decl.{Decl}
 use Rattle.nest_syntax.specs.declared.tree.Decl.TheVariants as decl
 use Rattle.nest_syntax.specs.declared.tree.Program.{Program}
 use Rattle.nest_syntax.specs.Arrays.{arrays_of, sizes_of}
-use Rattle.nest_check.specs.Declarations.{first_of_each, names_of, place_of_name}
+use Rattle.nest_check.specs.Declarations.{first_of_each, names_of, index_of_name}
 use Rattle.nest_check.specs.Entries.{scheduler_scalars}
 use Rattle.nest_check.specs.Tables.{scalar_of}
 use Rattle.nest_check.specs.Rules.{most_words, sum_passes, lengths_outside}
@@ -41,10 +41,10 @@ sum_within s (decl.Array line name size fixed ∷ decls) within e = by (nat_lt m
 pub few_words : (program : Program) → KeepsRules program → sum (sizes_of (arrays_of program.decls)) ≤ 1048576
 few_words program kept = let all = sum_within 0 program.decls (omega arith) (nil_right (lengths_outside program.decls) _ kept.lengths) in omega (arith, all)
 
--- a place is below a bound on the number of names
-place_below : (most : ℕ) (names : List ℕ) (name : ℕ) → length names ≤ most → IfSome (place_of_name names name) (λ place. place < most)
-place_below most [] name few = tt
-place_below most (first ∷ names) name few = by (first == name) (place_of_name names name) (place_below (length names) names name (omega arith))
+-- an index is below a bound on the number of names
+index_below : (most : ℕ) (names : List ℕ) (name : ℕ) → length names ≤ most → IfSome (index_of_name names name) (λ place. place < most)
+index_below most [] name few = tt
+index_below most (first ∷ names) name few = by (first == name) (index_of_name names name) (index_below (length names) names name (omega arith))
   where
     by : (here : Bool) (behind : Option ℕ) → IfSome behind (λ place. place < length names) → IfSome (if here then Some 0 else option_map suc behind) (λ place. place < most)
     by true behind below = omega arith
@@ -52,4 +52,4 @@ place_below most (first ∷ names) name few = by (first == name) (place_of_name 
     by false (Some place) below = omega (arith, below)
 
 pub scalar_below : (program : Program) (name : ℕ) → KeepsRules program → IfSome (scalar_of program name) (λ scalar. scalar < 32)
-scalar_below program name kept = place_below 32 (names_of (first_of_each (scheduler_scalars program))) name (few_scalar_names program kept)
+scalar_below program name kept = index_below 32 (names_of (first_of_each (scheduler_scalars program))) name (few_scalar_names program kept)

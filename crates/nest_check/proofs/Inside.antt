@@ -1,5 +1,6 @@
--- The turns of a checked program stay inside its arrays: one induction over the tree.
-use Rattle.std.proofs.Common.{◌≡◌, ℕ, zero, suc, ◌<◌, ◌++◌, ℤ, pos, negsuc, nat_lt, if◌then◌else◌, Bool, true, false, IsTrue, Option, Some, None, Result, Ok, Err, List, [], ◌∷◌, map, length, slice_index_or, refl, sym, ap, subst, arith}
+-- The turns of a checked program stay inside its arrays: an induction over the statements of a body, from the scope in
+-- which it is entered.
+use Rattle.std.proofs.Common.{◌≡◌, ℕ, zero, suc, ◌<◌, ◌++◌, ℤ, pos, negsuc, nat_lt, if◌then◌else◌, Bool, true, false, IsTrue, Option, Some, None, Result, Ok, Err, List, [], ◌∷◌, map, length, slice_index_or, refl, sym, ap, ◌∙◌, subst, arith}
 use Rattle.std.specs.List.{list_all}
 use Rattle.std.specs.Option.{option_map, option_and_then}
 use Rattle.std.proofs.lemmas.Bool.{ltb-true}
@@ -10,30 +11,32 @@ use Rattle.nest_syntax.specs.declared.operators.Bin.TheVariants as bin
 use Rattle.nest_syntax.specs.declared.operators.Op.{Op as Change}
 use Rattle.nest_syntax.specs.declared.operators.Cause.{Cause}
 use Rattle.nest_syntax.specs.declared.tree.Expr.{Expr, Expr-F, map-Expr, ind-Expr, fold-roll-Expr}
-use Rattle.nest_syntax.specs.declared.tree.Arm.{Arm, roll-Arm}
-use Rattle.nest_syntax.specs.declared.tree.Loop.{Loop, roll-Loop}
-use Rattle.nest_syntax.specs.declared.tree.Stmt.{Stmt, roll-Stmt}
-use Rattle.nest_syntax.specs.declared.tree.Stmt.TheVariants as stmt
-use Rattle.nest_syntax.specs.declared.tree.Stmt.TheOpen.{Stmt-F, Arm-F, Loop-F}
-use Rattle.nest_syntax.specs.declared.tree.Stmt.TheFolds.{map-Stmt, map-Arm, map-Loop, ind-Loop, fold-roll-Stmt, fold-roll-Arm, fold-roll-Loop, para-roll-Stmt, para-roll-Arm, para-roll-Loop}
+use Rattle.nest_syntax.specs.declared.tree.Arm.{Arm}
+use Rattle.nest_syntax.specs.declared.tree.Stmt.{Stmt}
+use Rattle.nest_syntax.specs.declared.tree.Stmt.TheOpen.{Stmt-F}
+use Rattle.nest_syntax.specs.Among.{Each}
+use Rattle.nest_syntax.specs.Shape.{statements_of_each, bodies_of}
 use Rattle.nest_syntax.specs.Words.{is_zero, truth, apply, apply_un, operation_of, turns, counted, variable}
-use Rattle.nest_syntax.specs.Arrays.{Array, array_of, sizes_of, is_fixed, located, place_in}
+use Rattle.nest_syntax.specs.Arrays.{Array, arrays_of, array_of, sizes_of, is_fixed, located, place_in}
 use Rattle.nest_syntax.specs.Value.{scalar_at, with_scalar}
-use Rattle.nest_syntax.specs.Turn.{Turn, Finished, Load, Store, Op, Go, Reckoning, Effect, Arm_effect, done_with, inside, operation_turn, reckoning_node, reckoning, assigning, writing, sequence, repeat, looping, choose, effect_node, arm_node, loop_node, effect, loop_effect}
+use Rattle.nest_syntax.specs.Turn.{Turn, Finished, Load, Store, Op, Go, Reckoning, Effect, Arm_effect, done_with, inside, operation_turn, reckoning_node, reckoning, assigning, writing, sequence, repeat, looping, choose, effect_node, effect}
 use Rattle.nest_syntax.specs.Inside.{StaysInside}
 use Rattle.nest_syntax.specs.Named.{decl_named}
 use Rattle.nest_syntax.specs.Locals.{with_zeros, locals_of}
-use Rattle.nest_syntax.specs.Course.{Setting, Item, Tested, Looped, in_order, chosen, item_node, tested_node, looped_node, item_of, tested_of, looped_of, region_of, setting_of, bodies_of}
 use Rattle.nest_syntax.specs.Outcome.{body_at}
-use Rattle.nest_syntax.proofs.Equations.{arm_effect, effect-write}
+use Rattle.nest_syntax.proofs.Equations.{arm_effect, arm_effect-is, effect-declare, effect-assign, effect-write, effect-if, effect-loop, loop_effect-is}
+use Rattle.nest_syntax.proofs.Inductions.{stmt_induction}
+use Rattle.nest_scope.specs.declared.occurrences.Binding.{Binding}
 use Rattle.nest_scope.specs.declared.occurrences.Binding.TheVariants as binding
 use Rattle.nest_scope.specs.declared.occurrences.Level.{Level}
 use Rattle.nest_scope.specs.declared.occurrences.Level.TheVariants as level
-use Rattle.nest_scope.specs.Occurrences.{Scope, Walk, Listing, bound, with_bound, inner, declared_at, variable_at, read_in, block, in_same_scope, stmt_node, in_stmt, in_arm, in_loop, in_decls, in_regions, behind_decls, unbound}
-use Rattle.nest_scope.specs.Occurrences as scope_of
-use Rattle.nest_syntax.proofs.Shapes.{regions_same}
+use Rattle.nest_scope.specs.Occurrences.{Scope, bound, with_bound, inner, declared_at, variable_at, read_in, in_same_scope, in_stmt, in_arm, in_block, in_decls, in_regions, unbound, occurrences_of}
+use Rattle.nest_scope.specs.Entered.{Entered, entered_of, declared_scope, is_schedulers}
+use Rattle.nest_scope.proofs.Entered.{loop_is, program_bound, regions_invoked}
+use Rattle.nest_scope.proofs.Equations.{occurrences-write, occurrences-if, occurrences-arm, occurrences-loop, behind-declare, behind-assign, behind-write, behind-if, behind-loop}
+use Rattle.nest_scope.proofs.Around.{EnteredFrom, by_loop, by_write, IsFrom, program_around}
 use Rattle.nest_check.specs.Inside.{TurnsStayInside}
-use Rattle.nest_check.proofs.Writable.{AreKept, kept-first, kept-second, kept-from_lines, bound_written, IsFree, IsWritable, writable-with, declared-no_array, variable-no_array, decls-writable}
+use Rattle.nest_check.proofs.Writable.{IsKept, AreKept, kept-first, kept-second, kept-from_lines, bound_written, IsFree, IsWritable, writable-with, declared-no_array, variable-no_array, decls-writable}
 
 -- what is located is inside
 module _ (arrays : List Array) where
@@ -99,78 +102,12 @@ module _ (arrays : List Array) where
   reckoned = ind-Expr (λ e. ReckoningInside (reckoning arrays e)) (λ x y is. subst ReckoningInside (sym (fold-roll-Expr Reckoning (reckoning_node arrays) x)) (subst (λ z. ReckoningInside (reckoned_at z)) is (expr_layer y)))
 
 -- what statements do, each in a scope where its occurrences keep the rules
-module _ (setting : Setting) where
-  abbrev arrays : List Array
-  arrays = setting.arrays
-
+module _ (arrays : List Array) where
   abbrev EffectInside : Effect → Type 0
   EffectInside f = (scalars : List ℤ) (go : List ℤ → Turn) → ((after : List ℤ) → Inside arrays (go after)) → Inside arrays (f scalars go)
 
-  abbrev ArmInside : Arm_effect → Type 0
-  ArmInside f = (scalars : List ℤ) (otherwise : Turn) (go : List ℤ → Turn) → Inside arrays otherwise → ((after : List ℤ) → Inside arrays (go after)) → Inside arrays (f scalars otherwise go)
-
   abbrev effect_of : List Stmt → Effect
   effect_of stmts = sequence (map (effect arrays) stmts)
-
-  abbrev BodiesInside : List (List Stmt) → Type 0
-  BodiesInside [] = Unit {0}
-  BodiesInside (body ∷ bodies) = EffectInside (effect_of body) × BodiesInside bodies
-
-  both-inside : (xs ys : List (List Stmt)) → BodiesInside xs → BodiesInside ys → BodiesInside (xs ++ ys)
-  both-inside [] ys a b = b
-  both-inside (x ∷ xs) ys a b = (a.0, both-inside xs ys a.1 b)
-
-  -- in each scope, what a statement, an arm and a loop do, and their bodies among the items
-  abbrev StmtOk : Effect → Walk → Item → Type 0
-  StmtOk f walk item = (at : Level) (scope : Scope) → IsWritable arrays scope → AreKept (walk at scope).occurrences → EffectInside f × IsWritable arrays (walk at scope).behind × BodiesInside item.bodies
-
-  abbrev ArmOk : Arm_effect → Listing → Tested → Type 0
-  ArmOk f walk tested = (at : Level) (scope : Scope) → IsWritable arrays scope → AreKept (walk at scope) → ArmInside f × BodiesInside tested.bodies
-
-  abbrev LoopOk : Effect → Listing → Looped → Type 0
-  LoopOk f walk looped = (at : Level) (scope : Scope) → IsWritable arrays scope → AreKept (walk at scope) → EffectInside f × BodiesInside looped.invocation.bodies × BodiesInside looped.region.bodies
-
-  abbrev StmtInside : Stmt → Type 0
-  StmtInside s = StmtOk (effect arrays s) (in_stmt s) (item_of setting s)
-
-  abbrev ArmStays : Arm → Type 0
-  ArmStays a = ArmOk (arm_effect arrays a) (in_arm a) (tested_of setting a)
-
-  abbrev LoopStays : Loop → Type 0
-  LoopStays l = LoopOk (loop_effect arrays l) (in_loop l) (looped_of setting l)
-
-  abbrev A_stmt : Type 0
-  A_stmt = (s : Stmt) × StmtInside s
-
-  abbrev An_arm : Type 0
-  An_arm = (a : Arm) × ArmStays a
-
-  abbrev A_loop : Type 0
-  A_loop = (l : Loop) × LoopStays l
-
-  abbrev items_at : List Stmt → Item
-  items_at stmts = in_order (map (λ (p : Stmt × Item). p.1) (map (λ q. (q, item_of setting q)) stmts))
-
-  abbrev arms_at : List Arm → Item → Item
-  arms_at arms other = chosen (map (λ (p : Arm × Tested). p.1) (map (λ q. (q, tested_of setting q)) arms)) other
-
-  block-inside : (stmts : List A_stmt) (at : Level) (scope : Scope) → IsWritable arrays scope → AreKept (block (map in_stmt (map (λ q. q.0) stmts)) at scope) → EffectInside (effect_of (map (λ q. q.0) stmts)) × BodiesInside (items_at (map (λ q. q.0) stmts)).bodies
-  block-inside [] at scope writable kept = (λ scalars go h. h scalars, tt)
-  block-inside (q ∷ qs) at scope writable kept =
-      let walked = in_stmt q.0 at scope in
-      let others = block (map in_stmt (map (λ q. q.0) qs)) at walked.behind in
-      let here = q.1 at scope writable (kept-first walked.occurrences others kept) in
-      let rest = block-inside qs at walked.behind here.1 (kept-second walked.occurrences others kept) in
-      (λ scalars go h. here.0 scalars (λ after. effect_of (map (λ q. q.0) qs) after go) (λ after. rest.0 after go h), both-inside (item_of setting q.0).bodies (items_at (map (λ q. q.0) qs)).bodies here.2 rest.1)
-
-  arms-inside : (arms : List An_arm) (at : Level) (scope : Scope) → IsWritable arrays scope → AreKept (in_same_scope (map in_arm (map (λ q. q.0) arms)) at scope) → (other : Effect) (item : Item) → EffectInside other → BodiesInside item.bodies
-      → EffectInside (choose (map (arm_effect arrays) (map (λ q. q.0) arms)) other) × BodiesInside (arms_at (map (λ q. q.0) arms) item).bodies
-  arms-inside [] at scope writable kept other item does holds = (does, holds)
-  arms-inside (q ∷ qs) at scope writable kept other item does holds =
-      let others = in_same_scope (map in_arm (map (λ q. q.0) qs)) at scope in
-      let here = q.1 at scope writable (kept-first (in_arm q.0 at scope) others kept) in
-      let rest = arms-inside qs at scope writable (kept-second (in_arm q.0 at scope) others kept) other item does holds in
-      (λ scalars go h. here.0 scalars (choose (map (arm_effect arrays) (map (λ q. q.0) qs)) other scalars go) go (rest.0 scalars go h) h, both-inside (tested_of setting q.0).bodies (arms_at (map (λ q. q.0) qs) item).bodies here.1 rest.1)
 
   assigning-inside : (line : Line) (o : Option Bin) (old value : ℤ) (go : ℤ → Turn) → ((v : ℤ) → Inside arrays (go v)) → Inside arrays (assigning line o old value go)
   assigning-inside line None old value go h = h value
@@ -196,126 +133,94 @@ module _ (setting : Setting) where
   looping-inside line (Ok n) value_in name body ok = repeat-inside n 0 value_in name body ok
   looping-inside line (Err cause) value_in name body ok = λ scalars go h. tt
 
-  abbrev effect_at : Stmt-F Stmt Arm Loop → Effect
-  effect_at x = effect_node arrays (map-Stmt Stmt Arm Loop Effect Arm_effect Effect (effect arrays) (arm_effect arrays) (loop_effect arrays) x)
+  -- in each scope, what a statement does, and the scope behind it
+  abbrev StmtInside : Stmt → Type 0
+  StmtInside s = (at : Level) (scope : Scope) → IsWritable arrays scope → AreKept (in_stmt s at scope).occurrences → EffectInside (effect arrays s) × IsWritable arrays (in_stmt s at scope).behind
 
-  abbrev walk_at : Stmt-F Stmt Arm Loop → Walk
-  walk_at x = stmt_node (map-Stmt Stmt Arm Loop Walk Listing Listing in_stmt in_arm in_loop x)
+  block-inside : (stmts : List Stmt) → Each StmtInside stmts → (at : Level) (scope : Scope) → IsWritable arrays scope → AreKept (in_block stmts at scope) → EffectInside (effect_of stmts)
+  block-inside [] each at scope writable kept = λ scalars go h. h scalars
+  block-inside (s ∷ stmts) each at scope writable kept =
+      let walked = in_stmt s at scope in
+      let others = in_block stmts at walked.behind in
+      let here = each.0 at scope writable (kept-first walked.occurrences others kept) in
+      let rest = block-inside stmts each.1 at walked.behind here.1 (kept-second walked.occurrences others kept) in
+      λ scalars go h. here.0 scalars (λ after. effect_of stmts after go) (λ after. rest after go h)
 
-  abbrev item_at : Stmt-F Stmt Arm Loop → Item
-  item_at x = item_node setting (map-Stmt Stmt Arm Loop (Stmt × Item) (Arm × Tested) (Loop × Looped) (λ q. (q, item_of setting q)) (λ q. (q, tested_of setting q)) (λ q. (q, looped_of setting q)) x)
+  arms-inside : (arms : List Arm) → Each (λ (a : Arm). Each StmtInside a.body) arms → (at : Level) (scope : Scope) → IsWritable arrays scope → AreKept (in_same_scope (map in_arm arms) at scope) → (other : Effect) → EffectInside other
+      → EffectInside (choose (map (arm_effect arrays) arms) other)
+  arms-inside [] each at scope writable kept other does = does
+  arms-inside (a ∷ arms) each at scope writable kept other does =
+      let others = in_same_scope (map in_arm arms) at scope in
+      let test = read_in a.line at scope a.test in
+      let parts : AreKept (test ++ in_block a.body at scope) = subst AreKept (occurrences-arm at scope a) (kept-first (in_arm a at scope) others kept) in
+      let body = block-inside a.body each.0 at scope writable (kept-second test (in_block a.body at scope) parts) in
+      let rest = arms-inside arms each.1 at scope writable (kept-second (in_arm a at scope) others kept) other does in
+      λ scalars go h.
+      let otherwise : Turn = choose (map (arm_effect arrays) arms) other scalars go in
+      subst (λ (f : Arm_effect). Inside arrays (f scalars otherwise go)) (sym (arm_effect-is arrays a))
+      (reckoned arrays a.test a.line scalars (λ v. Go (if is_zero v then otherwise else effect_of a.body scalars go)) (λ v. if-inside arrays (is_zero v) otherwise (effect_of a.body scalars go) (rest scalars go h) (body scalars go h)))
 
-  abbrev StmtAt : Stmt-F Stmt Arm Loop → Type 0
-  StmtAt x = StmtOk (effect_at x) (walk_at x) (item_at x)
+  stmt-inside : (s : Stmt) → StmtInside s
+  stmt-inside = stmt_induction StmtInside
+      (λ line name e at scope writable kept. (
+        subst EffectInside (sym (effect-declare arrays line name e)) (λ scalars go h. reckoned arrays e line scalars (λ new. Op (go (with_scalar scalars name new))) (λ new. h (with_scalar scalars name new))),
+        subst (IsWritable arrays) (sym (behind-declare at scope line name e)) (writable-with arrays scope name (declared_at at) (declared-no_array at) writable),
+      ))
+      (λ line name o e at scope writable kept. (
+        subst EffectInside (sym (effect-assign arrays line name o e)) (λ scalars go h. reckoned arrays e line scalars (λ right. assigning line (operation_of o) (scalar_at scalars name) right (λ new. Op (go (with_scalar scalars name new))))
+            (λ right. assigning-inside line (operation_of o) (scalar_at scalars name) right (λ new. Op (go (with_scalar scalars name new))) (λ new. h (with_scalar scalars name new)))),
+        subst (IsWritable arrays) (sym (behind-assign at scope line name o e)) writable,
+      ))
+      (λ line name place o e at scope writable kept.
+      let parts = subst AreKept (occurrences-write at scope line name place o e) kept in (
+        subst EffectInside (sym (effect-write arrays line name place o e)) (write-inside line name place o e (writable name (bound_written (bound scope name) parts.0.known parts.0.constant))),
+        subst (IsWritable arrays) (sym (behind-write at scope line name place o e)) writable,
+      ))
+      (λ arms other in_arms in_other at scope writable kept.
+      let tested = in_same_scope (map in_arm arms) at scope in
+      let last = in_block other at scope in
+      let parts : AreKept (tested ++ last) = subst AreKept (occurrences-if at scope arms other) kept in (
+        subst EffectInside (sym (effect-if arrays arms other)) (arms-inside arms in_arms at scope writable (kept-first tested last parts) (effect_of other) (block-inside other in_other at scope writable (kept-second tested last parts))),
+        subst (IsWritable arrays) (sym (behind-if at scope arms other)) writable,
+      ))
+      (λ l in_body at scope writable kept.
+      let within = with_bound scope l.name (variable_at at) in
+      let low = read_in l.line at scope l.low in
+      let high = read_in l.line at within l.high in
+      let last = in_block l.body (inner at) within in
+      let parts = subst AreKept (occurrences-loop at scope l) (subst AreKept (loop_is at l scope) kept) in
+      let body = block-inside l.body in_body (inner at) within (writable-with arrays scope l.name (variable_at at) (variable-no_array at) writable) (kept-second high last (kept-second low (high ++ last) parts.1)) in (
+        subst EffectInside (sym (effect-loop arrays l ∙ loop_effect-is arrays l))
+            (λ scalars go h. reckoned arrays l.low l.line scalars (λ first. reckoning arrays l.high l.line scalars (λ end. looping l.line (counted (turns first end l.step l.through)) (variable first l.step) l.name (effect_of l.body) scalars go))
+            (λ first. reckoned arrays l.high l.line scalars (λ end. looping l.line (counted (turns first end l.step l.through)) (variable first l.step) l.name (effect_of l.body) scalars go)
+            (λ end. looping-inside l.line (counted (turns first end l.step l.through)) (variable first l.step) l.name (effect_of l.body) body scalars go h))),
+        subst (IsWritable arrays) (sym (behind-loop at scope l)) writable,
+      ))
 
-  stmt_layer : (y : Stmt-F A_stmt An_arm A_loop) → StmtAt (map-Stmt A_stmt An_arm A_loop Stmt Arm Loop (λ q. q.0) (λ q. q.0) (λ q. q.0) y)
-  stmt_layer (Stmt-F.Declare line name e) = λ at scope writable kept. (
-    λ scalars go h. reckoned arrays e line scalars (λ new. Op (go (with_scalar scalars name new))) (λ new. h (with_scalar scalars name new)),
-    writable-with arrays scope name (declared_at at) (declared-no_array at) writable,
-    tt,
-  )
-  stmt_layer (Stmt-F.Assign line name o e) = λ at scope writable kept. (
-    λ scalars go h. reckoned arrays e line scalars (λ right. assigning line (operation_of o) (scalar_at scalars name) right (λ new. Op (go (with_scalar scalars name new))))
-        (λ right. assigning-inside line (operation_of o) (scalar_at scalars name) right (λ new. Op (go (with_scalar scalars name new))) (λ new. h (with_scalar scalars name new))),
-    writable,
-    tt,
-  )
-  stmt_layer (Stmt-F.Write line name place o e) = λ at scope writable kept.
-      let written = write-inside line name place o e (writable name (bound_written (bound scope name) kept.0.known kept.0.constant)) in (
-        written,
-        writable,
-        (subst EffectInside (sym (effect-write arrays line name place o e)) written, tt),
-      )
-  stmt_layer (Stmt-F.If arms other) = λ at scope writable kept.
-      let tested = in_same_scope (map in_arm (map (λ q. q.0) arms)) at scope in
-      let last = block (map in_stmt (map (λ q. q.0) other)) at scope in
-      let behind = block-inside other at scope writable (kept-second tested last kept) in
-      let all = arms-inside arms at scope writable (kept-first tested last kept) (effect_of (map (λ q. q.0) other)) (items_at (map (λ q. q.0) other)) behind.0 behind.1 in
-      (all.0, writable, all.1)
-  stmt_layer (Stmt-F.Loop l) = λ at scope writable kept. let here = l.1 at scope writable kept in (here.0, writable, here.1)
+  each-inside : (stmts : List Stmt) → Each StmtInside stmts
+  each-inside [] = tt
+  each-inside (s ∷ stmts) = (stmt-inside s, each-inside stmts)
 
-  stmt_step : (x : Stmt-F Stmt Arm Loop) (y : Stmt-F A_stmt An_arm A_loop) → map-Stmt A_stmt An_arm A_loop Stmt Arm Loop (λ q. q.0) (λ q. q.0) (λ q. q.0) y ≡ x → StmtInside (roll-Stmt x)
-  stmt_step x y is =
-      subst (λ f. StmtOk f (in_stmt (roll-Stmt x)) (item_of setting (roll-Stmt x))) (sym (fold-roll-Stmt Effect Arm_effect Effect (effect_node arrays) (arm_node arrays) (loop_node arrays) x))
-      (subst (λ w. StmtOk (effect_at x) w (item_of setting (roll-Stmt x))) (sym (fold-roll-Stmt Walk Listing Listing stmt_node scope_of.arm_node scope_of.loop_node x))
-      (subst (λ i. StmtOk (effect_at x) (walk_at x) i) (sym (para-roll-Stmt Item Tested Looped (item_node setting) (tested_node setting) (looped_node setting) x))
-      (subst StmtAt is (stmt_layer y))))
+  -- the bodies that are entered
+  scheduler-no_array : (to : Binding) → is_schedulers to ≡ true → to ≡ binding.Array → ⊥
+  scheduler-no_array to is array = let no : false ≡ true = sym (ap is_schedulers array) ∙ is in cc
 
-  abbrev arm_at : Arm-F Stmt Arm Loop → Arm_effect
-  arm_at x = arm_node arrays (map-Arm Stmt Arm Loop Effect Arm_effect Effect (effect arrays) (arm_effect arrays) (loop_effect arrays) x)
+  stays : (to : Binding) → is_schedulers to ≡ true → (scope : Scope) (name : ℕ) → IsWritable arrays scope → IsWritable arrays (with_bound scope name to)
+  stays to is scope name writable = writable-with arrays scope name to (scheduler-no_array to is) writable
 
-  abbrev listing_at : Arm-F Stmt Arm Loop → Listing
-  listing_at x = scope_of.arm_node (map-Arm Stmt Arm Loop Walk Listing Listing in_stmt in_arm in_loop x)
+  entered-writable : (e : Entered) (around : Scope) → EnteredFrom around e → IsWritable arrays around → IsWritable arrays e.scope
+  entered-writable _ around (by_loop l) writable = writable-with arrays around l.name binding.LoopVariable (variable-no_array level.Items) writable
+  entered-writable _ around (by_write line name place o e) writable = writable
 
-  abbrev tested_at : Arm-F Stmt Arm Loop → Tested
-  tested_at x = tested_node setting (map-Arm Stmt Arm Loop (Stmt × Item) (Arm × Tested) (Loop × Looped) (λ q. (q, item_of setting q)) (λ q. (q, tested_of setting q)) (λ q. (q, looped_of setting q)) x)
+  abbrev BodyInside : List Stmt → Type 0
+  BodyInside body = EffectInside (effect_of body)
 
-  abbrev ArmAt : Arm-F Stmt Arm Loop → Type 0
-  ArmAt x = ArmOk (arm_at x) (listing_at x) (tested_at x)
+  bodies-inside : (entered : List Entered) → Each (IsFrom (IsWritable arrays)) entered → Each (λ (e : Entered). AreKept (in_block e.body.stmts e.level e.scope)) entered → Each BodyInside (statements_of_each (map (λ (e : Entered). e.body) entered))
+  bodies-inside [] from kept = tt
+  bodies-inside (e ∷ entered) from kept =
+      (block-inside e.body.stmts (each-inside e.body.stmts) e.level e.scope (entered-writable e from.0.0 from.0.1.1 from.0.1.0) kept.0, bodies-inside entered from.1 kept.1)
 
-  arm_layer : (y : Arm-F A_stmt An_arm A_loop) → ArmAt (map-Arm A_stmt An_arm A_loop Stmt Arm Loop (λ q. q.0) (λ q. q.0) (λ q. q.0) y)
-  arm_layer y = λ at scope writable kept.
-      let stmts = map (λ (q : A_stmt). q.0) y.body in
-      let body = block-inside y.body at scope writable (kept-second (read_in y.line at scope y.test) (block (map in_stmt stmts) at scope) kept) in (
-        λ scalars otherwise go other h. reckoned arrays y.test y.line scalars (λ v. Go (if is_zero v then otherwise else effect_of stmts scalars go)) (λ v. if-inside arrays (is_zero v) otherwise (effect_of stmts scalars go) other (body.0 scalars go h)),
-        body.1,
-      )
-
-  arm_step : (x : Arm-F Stmt Arm Loop) (y : Arm-F A_stmt An_arm A_loop) → map-Arm A_stmt An_arm A_loop Stmt Arm Loop (λ q. q.0) (λ q. q.0) (λ q. q.0) y ≡ x → ArmStays (roll-Arm x)
-  arm_step x y is =
-      subst (λ f. ArmOk f (in_arm (roll-Arm x)) (tested_of setting (roll-Arm x))) (sym (fold-roll-Arm Effect Arm_effect Effect (effect_node arrays) (arm_node arrays) (loop_node arrays) x))
-      (subst (λ w. ArmOk (arm_at x) w (tested_of setting (roll-Arm x))) (sym (fold-roll-Arm Walk Listing Listing stmt_node scope_of.arm_node scope_of.loop_node x))
-      (subst (λ t. ArmOk (arm_at x) (listing_at x) t) (sym (para-roll-Arm Item Tested Looped (item_node setting) (tested_node setting) (looped_node setting) x))
-      (subst ArmAt is (arm_layer y))))
-
-  abbrev loop_at : Loop-F Stmt Arm Loop → Effect
-  loop_at x = loop_node arrays (map-Loop Stmt Arm Loop Effect Arm_effect Effect (effect arrays) (arm_effect arrays) (loop_effect arrays) x)
-
-  abbrev loop_listing_at : Loop-F Stmt Arm Loop → Listing
-  loop_listing_at x = scope_of.loop_node (map-Loop Stmt Arm Loop Walk Listing Listing in_stmt in_arm in_loop x)
-
-  abbrev looped_at : Loop-F Stmt Arm Loop → Looped
-  looped_at x = looped_node setting (map-Loop Stmt Arm Loop (Stmt × Item) (Arm × Tested) (Loop × Looped) (λ q. (q, item_of setting q)) (λ q. (q, tested_of setting q)) (λ q. (q, looped_of setting q)) x)
-
-  abbrev LoopAt : Loop-F Stmt Arm Loop → Type 0
-  LoopAt x = LoopOk (loop_at x) (loop_listing_at x) (looped_at x)
-
-  statements-are : (stmts : List Stmt) → stmts ≡ map (λ (s : Stmt × Item). s.0) (map (λ q. (q, item_of setting q)) stmts)
-  statements-are [] = refl
-  statements-are (s ∷ stmts) = ap (λ rest. s ∷ rest) (statements-are stmts)
-
-  loop_layer : (y : Loop-F A_stmt An_arm A_loop) → LoopAt (map-Loop A_stmt An_arm A_loop Stmt Arm Loop (λ q. q.0) (λ q. q.0) (λ q. q.0) y)
-  loop_layer y = λ at scope writable kept.
-      let stmts = map (λ (q : A_stmt). q.0) y.body in
-      let within = with_bound scope y.name (variable_at at) in
-      let low = read_in y.line at scope y.low in
-      let high = read_in y.line at within y.high in
-      let last = block (map in_stmt stmts) (inner at) within in
-      let body = block-inside y.body (inner at) within (writable-with arrays scope y.name (variable_at at) (variable-no_array at) writable) (kept-second high last (kept-second low (high ++ last) kept.1)) in (
-        λ scalars go h. reckoned arrays y.low y.line scalars (λ first. reckoning arrays y.high y.line scalars (λ end. looping y.line (counted (turns first end y.step y.through)) (variable first y.step) y.name (effect_of stmts) scalars go))
-            (λ first. reckoned arrays y.high y.line scalars (λ end. looping y.line (counted (turns first end y.step y.through)) (variable first y.step) y.name (effect_of stmts) scalars go)
-            (λ end. looping-inside y.line (counted (turns first end y.step y.through)) (variable first y.step) y.name (effect_of stmts) body.0 scalars go h)),
-        (subst (λ b. EffectInside (effect_of b)) (statements-are stmts) body.0, tt),
-        body.1,
-      )
-
-  loop_step : (x : Loop-F Stmt Arm Loop) (y : Loop-F A_stmt An_arm A_loop) → map-Loop A_stmt An_arm A_loop Stmt Arm Loop (λ q. q.0) (λ q. q.0) (λ q. q.0) y ≡ x → LoopStays (roll-Loop x)
-  loop_step x y is =
-      subst (λ f. LoopOk f (in_loop (roll-Loop x)) (looped_of setting (roll-Loop x))) (sym (fold-roll-Loop Effect Arm_effect Effect (effect_node arrays) (arm_node arrays) (loop_node arrays) x))
-      (subst (λ w. LoopOk (loop_at x) w (looped_of setting (roll-Loop x))) (sym (fold-roll-Loop Walk Listing Listing stmt_node scope_of.arm_node scope_of.loop_node x))
-      (subst (λ l. LoopOk (loop_at x) (loop_listing_at x) l) (sym (para-roll-Loop Item Tested Looped (item_node setting) (tested_node setting) (looped_node setting) x))
-      (subst LoopAt is (loop_layer y))))
-
-  loop-inside : (l : Loop) → LoopStays l
-  loop-inside = ind-Loop StmtInside ArmStays LoopStays stmt_step arm_step loop_step
-
-  regions-inside : (regions : List Loop) (scope : Scope) → IsWritable arrays scope → AreKept (in_regions regions scope) → BodiesInside (in_order (map (region_of setting) regions)).bodies
-  regions-inside [] scope writable kept = tt
-  regions-inside (l ∷ ls) scope writable kept =
-      let others = in_regions ls scope in
-      both-inside (region_of setting l).bodies (in_order (map (region_of setting) ls)).bodies (loop-inside l level.Outside scope writable (kept-first (in_loop l level.Outside scope) others kept)).2 (regions-inside ls scope writable (kept-second (in_loop l level.Outside scope) others kept))
-
-  body-inside : (bodies : List (List Stmt)) (n : ℕ) → BodiesInside bodies → EffectInside (effect_of (body_at bodies n))
+  body-inside : (bodies : List (List Stmt)) (n : ℕ) → Each BodyInside bodies → EffectInside (effect_of (body_at bodies n))
   body-inside [] n all = λ scalars go h. h scalars
   body-inside (body ∷ bodies) zero all = all.0
   body-inside (body ∷ bodies) (suc n) all = body-inside bodies n all.1
@@ -323,11 +228,11 @@ module _ (setting : Setting) where
 pub turns_stay_inside : TurnsStayInside
 turns_stay_inside program named keeps body scalars =
     let opening = unbound (length program.names) in
-    let scope = behind_decls program.decls opening in
     let decls = in_decls program.decls opening in
-    let regions = in_regions program.regions scope in
-    let kept : AreKept (decls ++ regions) = kept-from_lines (decls ++ regions) keeps.declared_once keeps.known keeps.constant in
-    let writable = decls-writable program.decls opening (kept-first decls regions kept) (subst (λ n. IsTrue (list_all (decl_named n) program.decls)) (sym (length-replicate (length program.names) binding.Unbound)) named.decls) in
-    let setting = setting_of program [] in
-    let bodies = subst (BodiesInside setting) (regions_same setting program.regions) (regions-inside setting program.regions scope writable (kept-second decls regions kept)) in
-    body-inside setting (bodies_of program) body bodies (with_zeros (locals_of (body_at (bodies_of program) body)) scalars) (λ after. Finished) (λ after. tt)
+    let regions = in_regions program.regions (declared_scope program) in
+    let arrays = arrays_of program.decls in
+    let kept : AreKept (occurrences_of program) = kept-from_lines (occurrences_of program) keeps.declared_once keeps.known keeps.constant in
+    let writable : IsWritable arrays (declared_scope program) = decls-writable program.decls opening (kept-first decls regions kept) (subst (λ n. IsTrue (list_all (decl_named n) program.decls)) (sym (length-replicate (length program.names) binding.Unbound)) named.decls) in
+    let inside = bodies-inside arrays (entered_of program) (program_around (IsWritable arrays) (stays arrays) program writable) (program_bound IsKept program kept) in
+    let bodies : Each (BodyInside arrays) (bodies_of program) = subst (λ bs. Each (BodyInside arrays) (statements_of_each bs)) (regions_invoked (declared_scope program) program.regions) inside in
+    body-inside arrays (bodies_of program) body bodies (with_zeros (locals_of (body_at (bodies_of program) body)) scalars) (λ after. Finished) (λ after. tt)

@@ -6,11 +6,11 @@ use Rattle.nest_syntax.specs.declared.tree.Program.{Program}
 use Rattle.nest_syntax.specs.declared.tree.Loop.{Loop}
 use Rattle.nest_syntax.specs.declared.tree.Decl.{Decl}
 use Rattle.nest_syntax.specs.declared.tree.Decl.TheVariants as decl
-use Rattle.lowest_line.proofs.Lists.{lower_of-append}
-use Rattle.lowest_line.specs.Lowest.{IsLowest, lower_of, lowest, lines_where}
+use Rattle.nest_syntax.proofs.LowerLists.{lower_of-append}
+use Rattle.nest_syntax.specs.Lowest.{IsLowest, lower_of, lowest, lines_where}
 use Rattle.nest_syntax.specs.Among.{IsOne}
 use Rattle.nest_scope.specs.Rules.{lines_redeclared, lines_unknown, lines_const_written, lines_loop_variable_assigned, lines_scheduler_scalar_assigned}
-use Rattle.data_local.specs.Bounds.{lines_of_changed_bounds}
+use Rattle.nest_check.specs.ChangedBounds.{lines_of_changed_bounds}
 use Rattle.nest_syntax.specs.Arrays.{arrays_of, array_names}
 use Rattle.nest_syntax.specs.Shape.{Declaration}
 use Rattle.nest_check.specs.Declarations.{first_of_each, lines_of, names_of}

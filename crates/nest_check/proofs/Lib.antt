@@ -1,9 +1,10 @@
 pub mod Lists
 pub mod Lines
+pub mod NamedParts
 pub mod PartNodes
 pub mod EntryNodes
 pub mod Room
-pub mod Places
+pub mod Indexes
 pub mod Judged
 pub mod Bodies
 pub mod Few

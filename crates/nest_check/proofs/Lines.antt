@@ -4,8 +4,8 @@ use Rattle.std.proofs.lemmas.List.{drop_all, drop-map}
 use Rattle.nest_syntax.specs.declared.names.Line.{Line}
 use Rattle.nest_syntax.specs.declared.tree.Decl.{Decl}
 use Rattle.nest_syntax.specs.declared.tree.Decl.TheVariants as decl
-use Rattle.lowest_line.specs.Lowest.{lower, lower_of, lines_where}
-use Rattle.lowest_line.proofs.Lists.{lower_of-append, lower_of-where}
+use Rattle.nest_syntax.specs.Lowest.{lower, lower_of, lines_where}
+use Rattle.nest_syntax.proofs.LowerLists.{lower_of-append, lower_of-where}
 use Rattle.nest_check.specs.declared.parts.Breaches.{Breaches}
 use Rattle.nest_check.specs.Through.{through}
 use Rattle.nest_check.specs.Parts.{Part}

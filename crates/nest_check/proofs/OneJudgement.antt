@@ -4,8 +4,8 @@ use Rattle.std.proofs.lemmas.Bool.Decides.{leb_tells}
 use Rattle.nest_syntax.specs.declared.names.Line.{Line}
 use Rattle.nest_syntax.specs.declared.tree.Program.{Program}
 use Rattle.nest_syntax.specs.Among.{IsOne}
-use Rattle.lowest_line.specs.Lowest.{IsLowest}
-use Rattle.lowest_line.proofs.Lowers.{one_lowest}
+use Rattle.nest_syntax.specs.Lowest.{IsLowest}
+use Rattle.nest_syntax.proofs.Lowers.{one_lowest}
 use Rattle.nest_check.specs.Kept.{KeepsRules}
 use Rattle.nest_check.specs.Broken.{BreaksRule, IsBroken, rules_on}
 use Rattle.nest_check.proofs.Judged.{AreLowest, broken_is}

@@ -1,11 +1,11 @@
 -- The loops and expressions of an arm and of a loop, as equations, and depths as they are counted.
-use Rattle.std.proofs.Common.{◌≡◌, ℕ, suc, ◌+◌, ◌<◌, ◌^◌, ◌-◌, min, nat_lt, ◌∷◌, map, ap, arith}
+use Rattle.std.proofs.Common.{◌≡◌, ℕ, suc, ◌+◌, ◌^◌, ◌-◌, min, nat_lt, ◌∷◌, map, ap, arith}
 use Rattle.std.proofs.lemmas.Bool.Decides.{nat_tests}
 use Rattle.nest_syntax.specs.declared.names.Line.{Line}
 use Rattle.nest_syntax.specs.declared.tree.Arm.{Arm}
 use Rattle.nest_syntax.specs.declared.tree.Loop.{Loop}
 use Rattle.nest_syntax.specs.declared.tree.Stmt.TheFolds.{fold_out-Arm, fold_out-Loop}
-use Rattle.lowest_line.specs.Lowest.{lower_if}
+use Rattle.nest_syntax.specs.Lowest.{lower_if}
 use Rattle.nest_check.specs.declared.parts.Breaches.{Breaches}
 use Rattle.nest_check.specs.Parts.{Parts_at, ALoop, AnExpression, all_at, parts, parts_in_arm, parts_in_loop, parts_node, arm_parts_node, loop_parts_node}
 use Rattle.nest_check.specs.Noted.{noted, counted_depth}

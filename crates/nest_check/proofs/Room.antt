@@ -8,9 +8,9 @@ use Rattle.std.proofs.lemmas.List.{take_all, take-append-le, length-take-le, map
 use Rattle.std.proofs.lemmas.List.Elements.{filter-append}
 use Rattle.nest_syntax.specs.declared.names.NoMemory.{NoMemory}
 use Rattle.nest_syntax.specs.declared.tree.Loop.{Loop}
-use Rattle.lowest_line.specs.Lowest.{lower_if, lower_of, lines_where}
-use Rattle.lowest_line.proofs.Lists.{lower_of-append, lower_of-where}
-use Rattle.data_local.specs.Bounds.{line_of}
+use Rattle.nest_syntax.specs.Lowest.{lower_if, lower_of, lines_where}
+use Rattle.nest_syntax.proofs.LowerLists.{lower_of-append, lower_of-where}
+use Rattle.data_local.specs.Loops.{line_of}
 use Rattle.nest_check.specs.declared.entries.Tally.{Tally}
 use Rattle.nest_check.specs.declared.items.Sizes.{Sizes}
 use Rattle.nest_check.specs.Through.{through}

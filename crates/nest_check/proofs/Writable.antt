@@ -1,6 +1,6 @@
 -- What the rules on names say of the arrays that are written: in each scope, a name that is bound to an array that may be
 -- written is that of an array that isn't `const`.
-use Rattle.std.proofs.Common.{◌≡◌, ℕ, suc, ◌==◌, nat_lt, if◌then◌else◌, Bool, true, false, Option, Some, None, IsTrue, List, [], ◌∷◌, ◌++◌, map, filter, length, set, refl, sym, ap, ◌∙◌, subst, arith, ⊎_elim}
+use Rattle.std.proofs.Common.{◌≡◌, ℕ, suc, ◌==◌, nat_lt, if◌then◌else◌, Bool, true, false, Option, Some, None, IsTrue, List, [], ◌∷◌, ◌++◌, length, set, refl, sym, ap, ◌∙◌, subst, arith, ⊎_elim}
 use Rattle.std.specs.List.{list_all}
 use Rattle.std.specs.Option.{option_map}
 use Rattle.std.proofs.lemmas.Bool.{and_parts, eqb-true, ltb-true, ltb-false, cases_eq}
@@ -9,7 +9,9 @@ use Rattle.nest_syntax.specs.declared.tree.Decl.{Decl}
 use Rattle.nest_syntax.specs.declared.tree.Decl.TheVariants as decl
 use Rattle.nest_syntax.specs.Arrays.{Array, arrays_of, array_of, is_fixed}
 use Rattle.nest_syntax.specs.Named.{decl_named}
-use Rattle.lowest_line.specs.Lowest.{lines_where}
+use Rattle.nest_syntax.specs.Among.{Each}
+use Rattle.nest_syntax.proofs.Inductions.{each_left, each_right}
+use Rattle.nest_syntax.specs.Lowest.{lines_where}
 use Rattle.nest_scope.specs.declared.occurrences.Binding.{Binding}
 use Rattle.nest_scope.specs.declared.occurrences.Binding.TheVariants as binding
 use Rattle.nest_scope.specs.declared.occurrences.Level.{Level}
@@ -17,6 +19,7 @@ use Rattle.nest_scope.specs.declared.occurrences.Level.TheVariants as level
 use Rattle.nest_scope.specs.declared.occurrences.Action.TheVariants as action
 use Rattle.nest_scope.specs.declared.occurrences.Occurrence.{Occurrence}
 use Rattle.nest_scope.specs.Occurrences.{Scope, bound, with_bound, declared_at, variable_at, array_binding, in_decls, behind_decls}
+use Rattle.nest_scope.proofs.Entered.{none_where}
 use Rattle.nest_scope.specs.Rules.{is_redeclared, is_no_array, is_const_written, redeclares, uses_unknown, writes_const, line_of}
 
 -- an occurrence that breaks none of three rules, and a list of such
@@ -26,30 +29,20 @@ pub record IsKept (o : Occurrence) : Type 0 where
   pub constant : writes_const o ≡ false
 
 abbrev pub AreKept : List Occurrence → Type 0
-AreKept [] = Unit {0}
-AreKept (o ∷ os) = IsKept o × AreKept os
+AreKept os = Each IsKept os
 
 pub kept-first : (xs ys : List Occurrence) → AreKept (xs ++ ys) → AreKept xs
-kept-first [] ys kept = tt
-kept-first (x ∷ xs) ys kept = (kept.0, kept-first xs ys kept.1)
+kept-first xs ys kept = each_left IsKept xs ys kept
 
 pub kept-second : (xs ys : List Occurrence) → AreKept (xs ++ ys) → AreKept ys
-kept-second [] ys kept = kept
-kept-second (x ∷ xs) ys kept = kept-second xs ys kept.1
-
-none_breaks : (breaks : Occurrence → Bool) (o : Occurrence) (os : List Occurrence) → lines_where line_of breaks (o ∷ os) ≡ [] → (breaks o ≡ false) × (lines_where line_of breaks os ≡ [])
-none_breaks breaks o os none = by (breaks o) refl none
-  where
-    by : (b : Bool) → breaks o ≡ b → map line_of (if b then o ∷ filter breaks os else filter breaks os) ≡ [] → (breaks o ≡ false) × (lines_where line_of breaks os ≡ [])
-    by true is e = absurd (cc)
-    by false is e = (is, e)
+kept-second xs ys kept = each_right IsKept xs ys kept
 
 pub kept-from_lines : (os : List Occurrence) → lines_where line_of redeclares os ≡ [] → lines_where line_of uses_unknown os ≡ [] → lines_where line_of writes_const os ≡ [] → AreKept os
 kept-from_lines [] once known constant = tt
 kept-from_lines (o ∷ os) once known constant =
-    let a = none_breaks redeclares o os once in
-    let b = none_breaks uses_unknown o os known in
-    let c = none_breaks writes_const o os constant in
+    let a = none_where redeclares o os once in
+    let b = none_where uses_unknown o os known in
+    let c = none_where writes_const o os constant in
     (record { declared_once = a.0; known = b.0; constant = c.0 }, kept-from_lines os a.1 b.1 c.1)
 
 -- what a name is bound to where it is written, and where it is declared

@@ -23,7 +23,7 @@ names_of declarations = map (λ (d : Declaration). d.0) declarations
 abbrev pub lines_of : List Declaration → List Line
 lines_of declarations = map (λ (d : Declaration). d.1) declarations
 
--- the place at which a name stands first in a list, counted from 0
-abbrev pub place_of_name : List ℕ → ℕ → Option ℕ
-place_of_name [] name = None
-place_of_name (first ∷ names) name = if first == name then Some 0 else option_map suc (place_of_name names name)
+-- the index at which a name stands first in a list, counted from 0
+abbrev pub index_of_name : List ℕ → ℕ → Option ℕ
+index_of_name [] name = None
+index_of_name (first ∷ names) name = if first == name then Some 0 else option_map suc (index_of_name names name)

@@ -3,7 +3,8 @@ use Rattle.std.specs.Prelude.{◌≡◌, []}
 use Rattle.nest_syntax.specs.declared.names.Line.{Line}
 use Rattle.nest_syntax.specs.declared.tree.Program.{Program}
 use Rattle.nest_scope.specs.Rules.{lines_redeclared, lines_unknown, lines_const_written, lines_loop_variable_assigned, lines_scheduler_scalar_assigned}
-use Rattle.data_local.specs.Bounds.{lines_of_changed_bounds, HasDataBound}
+use Rattle.data_local.specs.Bounds.{HasDataBound}
+use Rattle.nest_check.specs.ChangedBounds.{lines_of_changed_bounds}
 use Rattle.nest_check.specs.Rules.{beyond_64, wrong_lengths, wrong_steps, deep_loops, large_regions, large_bodies, deep_expressions}
 
 pub record KeepsRules (program : Program) : Type 0 where

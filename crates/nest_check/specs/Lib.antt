@@ -2,6 +2,8 @@ pub mod Through
 pub mod Declarations
 pub mod Entries
 pub mod Parts
+pub mod ChangedBounds
+pub mod NamedIn
 pub mod Rules
 pub mod Kept
 pub mod Tables

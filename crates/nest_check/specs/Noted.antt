@@ -1,8 +1,9 @@
--- What the walks over a program note, part by part and entry by entry, and what is made of it.
+-- No caller of `check` needs this. What the walks over a program note, part by part and entry by entry, and what is
+-- made of it.
 use Rattle.std.specs.Prelude.{ℕ, ◌-◌, min, ◌==◌, if◌then◌else◌, nat_lt, Option, Some, None, List, [], ◌∷◌, length}
 use Rattle.nest_syntax.specs.declared.names.Line.{Line}
 use Rattle.nest_syntax.specs.declared.tree.Loop.{Loop}
-use Rattle.lowest_line.specs.Lowest.{lower_if}
+use Rattle.nest_syntax.specs.Lowest.{lower_if}
 use Rattle.nest_check.specs.declared.parts.Breaches.{Breaches}
 use Rattle.nest_check.specs.declared.entries.Tally.{Tally}
 use Rattle.nest_check.specs.declared.items.Sizes.{Sizes}

@@ -6,8 +6,8 @@ use Rattle.nest_syntax.specs.declared.tree.Decl.{Decl}
 use Rattle.nest_syntax.specs.declared.tree.Decl.TheVariants as decl
 use Rattle.nest_syntax.specs.declared.tree.Loop.{Loop}
 use Rattle.nest_syntax.specs.declared.tree.Program.{Program}
-use Rattle.lowest_line.specs.Lowest.{lines_where}
-use Rattle.data_local.specs.Bounds.{line_of}
+use Rattle.nest_syntax.specs.Lowest.{lines_where}
+use Rattle.data_local.specs.Loops.{line_of}
 use Rattle.nest_syntax.specs.Shape.{Declaration, Body, items_of, declarations_in, invoked_by}
 use Rattle.nest_check.specs.Declarations.{first_of_each, lines_of}
 use Rattle.nest_check.specs.Entries.{statements_of, scheduler_scalars}

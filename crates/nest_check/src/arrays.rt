@@ -1,9 +1,8 @@
 ghost use Rattle.std.specs.Prelude.{◌≡◌, ◌++◌};
-ghost use Rattle.lowest_line.specs.Lowest.{lowest, lower_of};
+ghost use Rattle.nest_syntax.specs.Lowest.{lowest, lower_of};
 ghost use Rattle.nest_check.specs.Rules.{first_behind, array_lines, region_lines, lengths_outside, sum_passes, beyond_64, wrong_lengths};
 
-use lowest_line::Lowest;
-use nest_syntax::{Decl, Line, Loop, Program};
+use nest_syntax::{Decl, Line, Loop, Lowest, Program};
 
 const MOST_ARRAYS: u32 = 64;
 

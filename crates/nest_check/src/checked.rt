@@ -5,12 +5,12 @@ ghost use Rattle.nest_check.specs.Declarations.{first_of_each};
 ghost use Rattle.nest_check.specs.Entries.{scheduler_scalars};
 ghost use Rattle.nest_syntax.specs.Shape.{bodies_of};
 ghost use Rattle.data_local.specs.DataLocals.{IsDataLocal};
-ghost use Rattle.data_local.specs.Bodies.{body_numbered};
+ghost use Rattle.data_local.specs.Bodies.{AreLocalsByBody, body_numbered};
 ghost use Rattle.nest_check.specs.Kept.{KeepsRules};
 ghost use Rattle.nest_check.specs.Tables.{scalar_of};
 
 use crate::copies::copy_program;
-use crate::tables::{array_names, declared_names, lengths_of, place_table};
+use crate::tables::{array_names, declared_names, index_table, lengths_of};
 use data_local::{DataLocals, data_locals_by_body};
 use nest_syntax::{Line, NoMemory, Program};
 use std::alloc::Global;
@@ -60,9 +60,9 @@ impl Checked {
     {
         let lengths = lengths_of(alloc, program.decls.as_slice())?;
         let array_names = array_names(alloc, program.decls.as_slice())?;
-        let arrays = place_table(alloc, array_names.as_slice())?;
+        let arrays = index_table(alloc, array_names.as_slice())?;
         let scalar_names = declared_names(alloc, scalars)?;
-        let scalars = place_table(alloc, scalar_names.as_slice())?;
+        let scalars = index_table(alloc, scalar_names.as_slice())?;
         let locals = data_locals_by_body(alloc, &program)?;
         Ok(Checked {
             program,
@@ -126,6 +126,13 @@ impl Checked {
         ensures few { IfSome result (λ scalar. scalar < 32) }
     {
         self.scalars.get(name as usize).copied().unwrap_or(None)
+    }
+
+    /// The data locals of each body, by the body's number. An array statement has none.
+    pub fn data_locals(&self) -> &[DataLocals]
+        ensures { AreLocalsByBody (arrays_of self.now.decls) (bodies_of self.now) result.now }
+    {
+        self.locals.as_slice()
     }
 
     /// Whether a name is a data local of the body with this number. An array statement has none, and neither has a

@@ -1,6 +1,6 @@
 ghost use Rattle.std.specs.Prelude.{◌≡◌, OnOk, IfOk, map, take};
 ghost use Rattle.std.specs.List.{flat_map};
-ghost use Rattle.lowest_line.specs.Lowest.{lowest};
+ghost use Rattle.nest_syntax.specs.Lowest.{lowest};
 ghost use Rattle.nest_check.specs.Through.{through};
 ghost use Rattle.nest_check.specs.Declarations.{first_of_each};
 ghost use Rattle.nest_syntax.specs.Shape.{Plain, Declares, Invokes, body_of_loop, items, items_of, items_in_arm};
@@ -10,8 +10,7 @@ ghost use Rattle.nest_check.specs.Noted.{added, passed, region_begun, region_end
 
 use crate::entries::{Tally, is_large_body};
 use crate::first_names::FirstNames;
-use lowest_line::Lowest;
-use nest_syntax::{Arm, Decl, Line, Loop, NoMemory, Program, Stmt};
+use nest_syntax::{Arm, Decl, Line, Loop, Lowest, NoMemory, Program, Stmt};
 use std::alloc::Global;
 
 const MOST_ITEMS: u32 = 64;

@@ -1,5 +1,5 @@
 ghost use Rattle.std.specs.Prelude.{◌≡◌, IfOk, take};
-ghost use Rattle.lowest_line.specs.Lowest.{lower_of};
+ghost use Rattle.nest_syntax.specs.Lowest.{lower_of};
 ghost use Rattle.nest_check.specs.Declarations.{first_of_each, lines_of};
 ghost use Rattle.nest_check.specs.Entries.{scheduler_scalars};
 ghost use Rattle.nest_check.specs.Rules.{first_behind};
@@ -7,13 +7,13 @@ ghost use Rattle.nest_check.specs.Noted.{first_broken};
 ghost use Rattle.nest_check.specs.Broken.{IsBroken};
 
 use crate::arrays::{lowest_beyond_64, lowest_wrong_length};
+use crate::changed_bounds::lowest_changed_bound;
 use crate::first_names::FirstNames;
 use crate::items::sizes_of;
 use crate::parts::part_breaches;
-use data_local::bound_breaches;
-use lowest_line::Lowest;
+use data_local::lowest_data_bound;
 use nest_scope::scope_breaches;
-use nest_syntax::{Line, NoMemory, Program};
+use nest_syntax::{Line, Lowest, NoMemory, Program};
 use std::alloc::Global;
 
 const MOST_SCALARS: usize = 32;
@@ -30,7 +30,8 @@ pub(crate) fn judge(alloc: Global, program: &Program) -> Result<Judgement, NoMem
     ensures scalars { IfOk result (λ j. j.scalars ≡ take 33 (first_of_each (scheduler_scalars program.now))) }
 {
     let names = scope_breaches(alloc, program)?;
-    let bounds = bound_breaches(alloc, program)?;
+    let changed_bound = lowest_changed_bound(alloc, program)?;
+    let data_bound = lowest_data_bound(alloc, program)?;
     let parts = part_breaches(program);
     let sizes = sizes_of(alloc, program)?;
     let rules = [
@@ -43,8 +44,8 @@ pub(crate) fn judge(alloc: Global, program: &Program) -> Result<Judgement, NoMem
         (7u8, parts.levels.line()),
         (8u8, names.loop_variable_assigned),
         (9u8, names.scheduler_scalar_assigned),
-        (10u8, bounds.high),
-        (11u8, bounds.inner),
+        (10u8, changed_bound),
+        (11u8, data_bound),
         (12u8, sizes.regions.line()),
         (13u8, sizes.bodies.line()),
         (

@@ -5,6 +5,7 @@
 #![tactic(auto)]
 
 mod arrays;
+mod changed_bounds;
 mod checked;
 mod checking;
 mod copies;
@@ -14,6 +15,7 @@ mod first_names;
 mod items;
 mod judge;
 mod law;
+mod named;
 mod parts;
 mod refused;
 mod tables;

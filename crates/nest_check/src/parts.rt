@@ -1,13 +1,12 @@
 ghost use Rattle.std.specs.Prelude.{◌≡◌, ℕ, map};
-ghost use Rattle.lowest_line.specs.Lowest.{lowest, lines_where};
+ghost use Rattle.nest_syntax.specs.Lowest.{lowest, lines_where};
 ghost use Rattle.nest_check.specs.Through.{through};
 ghost use Rattle.nest_check.specs.Parts.{ALoop, AnExpression, all_at, parts, parts_in_arm, parts_in_loop};
 ghost use Rattle.nest_check.specs.Rules.{parts_of, wrong_steps, deep_loops, part_line, is_deep};
 ghost use Rattle.nest_check.specs.Noted.{noted, counted_depth};
 
 use crate::expressions::is_deeper;
-use lowest_line::Lowest;
-use nest_syntax::{Arm, Expr, Line, Loop, Program, Stmt};
+use nest_syntax::{Arm, Expr, Line, Loop, Lowest, Program, Stmt};
 
 const MOST_STEP: u64 = 65_536;
 

@@ -1,5 +1,5 @@
 ghost use Rattle.std.specs.Prelude.{◌≡◌};
-ghost use Rattle.nest_check.specs.declared.refused.CheckRefused.TheVariants.{NoMemory as NoSpace};
+ghost use Rattle.nest_check.specs.declared.refused.CheckRefused.TheVariants.{NoMemory as OutOfMemory};
 
 use nest_syntax::{Line, NoMemory};
 use thiserror::Error;
@@ -16,7 +16,7 @@ pub enum CheckRefused {
 }
 
 impl From<NoMemory> for CheckRefused {
-    ghost from_gives = { λ _ e. e ≡ NoSpace };
+    ghost from_gives = { λ _ e. e ≡ OutOfMemory };
 
     fn from(_error: NoMemory) -> CheckRefused {
         CheckRefused::NoMemory

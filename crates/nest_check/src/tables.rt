@@ -1,7 +1,7 @@
 ghost use Rattle.std.specs.Prelude.{◌≡◌, ◌<◌, ◌^◌, ℕ, IfOk, length, map, EachIndex, slice_index, replicate, None};
 ghost use Rattle.nest_syntax.specs.Arrays.{Array, arrays_of, sizes_of, array_names};
-ghost use Rattle.nest_check.specs.Declarations.{names_of, place_of_name};
-ghost use Rattle.nest_check.specs.Tables.{at_name, place_noted};
+ghost use Rattle.nest_check.specs.Declarations.{names_of, index_of_name};
+ghost use Rattle.nest_check.specs.Tables.{at_name, index_noted};
 
 use nest_syntax::{Decl, Line, NoMemory};
 use std::alloc::Global;
@@ -48,32 +48,32 @@ pub(crate) fn declared_names(
     Ok(names)
 }
 
-/// A table that has for each name the place at which it stands first in a list.
-pub(crate) fn place_table(alloc: Global, names: &[u32]) -> Result<Vec<Option<u32>>, NoMemory>
+/// A table that has for each name the index at which it stands first in a list.
+pub(crate) fn index_table(alloc: Global, names: &[u32]) -> Result<Vec<Option<u32>>, NoMemory>
     requires { length names.now < 2 ^ 32 }
-    ensures { IfOk result (λ table. (name : ℕ) → at_name table.items name ≡ place_of_name names.now name) }
+    ensures { IfOk result (λ table. (name : ℕ) → at_name table.items name ≡ index_of_name names.now name) }
 {
     let mut table = empty_table(alloc, table_length(names))?;
-    let mut place = 0u32;
+    let mut index = 0u32;
     for name in names {
-        note_place(&mut table, *name, place);
-        place += 1;
+        note_index(&mut table, *name, index);
+        index += 1;
     }
     Ok(table)
 }
 
-// A table that has no place for a name.
+// A table that has no index for a name.
 fn empty_table(alloc: Global, length: usize) -> Result<Vec<Option<u32>>, NoMemory>
     ensures { IfOk result (λ table. table.items ≡ replicate length None) }
 {
     let mut table = Vec::with_capacity(alloc, length)?;
-    for _place in 0..length {
+    for _index in 0..length {
         table.push(None)?;
     }
     Ok(table)
 }
 
-// How long a table is that has a place for each name.
+// How long a table is that has an index for each name.
 fn table_length(names: &[u32]) -> usize
     ensures { EachIndex names.now (λ k. slice_index names.now k < result) }
 {
@@ -86,12 +86,12 @@ fn table_length(names: &[u32]) -> usize
     length
 }
 
-// Notes a place, unless the name has one.
-fn note_place(table: &mut Vec<Option<u32>>, name: u32, place: u32)
+// Notes an index, unless the name has one.
+fn note_index(table: &mut Vec<Option<u32>>, name: u32, index: u32)
     requires { name < length table.old.items }
-    ensures { table.new.items ≡ place_noted table.old.items name place }
+    ensures { table.new.items ≡ index_noted table.old.items name index }
 {
     if table[name as usize].is_none() {
-        table[name as usize] = Some(place);
+        table[name as usize] = Some(index);
     }
 }

@@ -1,6 +1,7 @@
 ghost use Rattle.std.specs.Prelude.{◌≡◌, ◌+◌, ◌++◌, ◌^◌, ◌<◌, length, IfOk, OnOk};
-ghost use Rattle.nest_syntax.specs.Arrays.{arrays_of, sizes_of};
-ghost use Rattle.nest_data.specs.Text.{array_line, array_lines, value_text};
+ghost use Rattle.nest_syntax.specs.Arrays.{arrays_of};
+ghost use Rattle.word_store.specs.Memory.{HasLayout};
+ghost use Rattle.nest_data.specs.Text.{array_line, array_lines};
 
 use crate::arrays::name_bytes;
 use itoa::Buffer;
@@ -12,7 +13,7 @@ use word_store::Words;
 /// The lines of the arrays that aren't `const`, in order of declaration: the name and the values, separated by single
 /// spaces. The words have the sizes of the declared arrays.
 pub fn print_words(alloc: Global, words: &Words, checked: &Checked) -> Result<Vec<u8>, NoMemory>
-    requires { words.now.sizes ≡ sizes_of (arrays_of checked.now.decls) }
+    requires { HasLayout words.now checked.now.decls }
     ensures { IfOk result (λ text. text.items ≡ array_lines checked.now.names words.now 0 checked.now.decls) }
 {
     let program = checked.program();
@@ -31,7 +32,7 @@ fn print_lines(
     names: &[Name],
     decls: &[Decl],
 ) -> Result<Vec<u8>, NoMemory>
-    requires sizes { words.now.sizes ≡ sizes_of (arrays_of decls.now) }
+    requires sizes { HasLayout words.now decls.now }
     requires few { length (arrays_of decls.now) < 2 ^ 32 }
     ensures { IfOk result (λ text. text.items ≡ array_lines names.now words.now 0 decls.now) }
 {

@@ -1,6 +1,6 @@
 ghost use Rattle.std.specs.Prelude.{◌≡◌, ◌≤◌, ℕ, List, Ok, length, IfOk};
-ghost use Rattle.nest_syntax.specs.Arrays.{Array, arrays_of, sizes_of};
-ghost use Rattle.word_store.specs.Memory.{Memory};
+ghost use Rattle.nest_syntax.specs.Arrays.{Array, arrays_of};
+ghost use Rattle.word_store.specs.Memory.{Memory, HasLayout};
 ghost use Rattle.nest_data.specs.Data.{data_of, Tells};
 ghost use Rattle.nest_data.specs.Lines.{lines_of};
 ghost use Rattle.nest_data.specs.OfLines.{AreOfLines};
@@ -26,7 +26,7 @@ pub fn read_data(
     requires small { length bytes.now ≤ 33554432 }
     requires line { first_line ≤ 33554433 }
     ensures told { Tells (data_of checked.now.names (arrays_of checked.now.decls) first_line bytes.now) result }
-    ensures sizes { IfOk result (λ words. words.sizes ≡ sizes_of (arrays_of checked.now.decls)) }
+    ensures sizes { IfOk result (λ words. HasLayout words checked.now.decls) }
 {
     let program = checked.program();
     let arrays = checked.array_names(alloc)?;

@@ -1,3 +1,3 @@
-pub mod Places
+pub mod Spots
 pub mod OneNest
 pub mod Told

@@ -22,7 +22,7 @@ fn token_refusal(kind: LexKind, at: Spot) -> Refusal
     }
 }
 
-/// The place of a token by its number. The place of the number behind the last one is the end of the nest.
+/// The spot of a token by its number. The spot of the number behind the last one is the end of the nest.
 fn spot_at(tokens: &Tokens, number: usize) -> Spot
     ensures { result ≡ spot_at tokens.now number }
 {

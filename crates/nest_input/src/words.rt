@@ -1,6 +1,6 @@
 //! The words of an input.
-ghost use Rattle.std.specs.Prelude.{◌≡◌, ◌≤◌, IfOk, length};
-ghost use Rattle.nest_syntax.specs.Arrays.{arrays_of, sizes_of};
+ghost use Rattle.std.specs.Prelude.{◌≤◌, IfOk, length};
+ghost use Rattle.word_store.specs.Memory.{HasLayout};
 ghost use Rattle.nest_input.specs.Input.{SaysWords, Tells};
 
 use crate::refused::{InputRefused, Refusal};
@@ -15,7 +15,7 @@ use word_store::Words;
 pub fn read_words(alloc: Global, input: &[u8], checked: &Checked) -> Result<Words, InputRefused>
     requires { length input.now ≤ 33554432 }
     ensures said { Tells (SaysWords input.now checked.now) result }
-    ensures sizes { IfOk result (λ words. words.sizes ≡ sizes_of (arrays_of checked.now.decls)) }
+    ensures sizes { IfOk result (λ words. HasLayout words checked.now.decls) }
 {
     let parts = parts(input);
     let lines = match parts.values {

@@ -1,7 +1,7 @@
 -- A text has one list of tokens or one first fault, and never both.
 use Rattle.std.proofs.Common.{◌≡◌, ◌⊎◌, ℕ, List, Err, Result, refl, sym, ap, ◌∙◌, inl, inr}
 use Rattle.nest_lex.specs.Load.{no_load}
-use Rattle.nest_lex.specs.Places.{spot_of}
+use Rattle.nest_lex.specs.Spots.{spot_of}
 use Rattle.nest_lex.specs.Text.{Whole, Faulty, AreTokens, IsFault, IsRefusal, tokens_of}
 use Rattle.nest_lex.specs.declared.refused.LexKind.{LexKind}
 use Rattle.nest_lex.specs.declared.refused.LexRefused.{LexRefused}

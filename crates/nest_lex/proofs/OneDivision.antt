@@ -2,7 +2,7 @@
 use Rattle.std.proofs.Common.{◌≡◌, ℕ, ◌+◌, ◌<◌, ◌≤◌, List, length, slice_range, Some, None, refl, sym, subst, inl, inr, arith}
 use Rattle.std.proofs.lemmas.Bool.{cases_lt}
 use Rattle.nest_lex.specs.Parts.{Says, IsMarkerLine, NoneBetween, IsParts, behind, marker_text, nest_alone, with_steps, with_data, with_both}
-use Rattle.nest_lex.specs.Places.{spot_of}
+use Rattle.nest_lex.specs.Spots.{spot_of}
 use Rattle.nest_lex.specs.declared.input.Marker.{Marker}
 use Rattle.nest_lex.specs.declared.input.Marker.TheVariants as marker
 use Rattle.nest_lex.specs.declared.input.Parts.{Parts}

@@ -5,7 +5,7 @@ use Rattle.std.proofs.lemmas.List.Sums.{fold-append}
 use Rattle.nest_lex.specs.Load.{no_load, load_after, IsAllowed}
 use Rattle.nest_lex.specs.Found.{IsBad}
 use Rattle.nest_lex.specs.Pieces.{IsGap, Stands}
-use Rattle.nest_lex.specs.Places.{spot_of}
+use Rattle.nest_lex.specs.Spots.{spot_of}
 use Rattle.nest_lex.specs.Reader.{Went, AllKnown, IsKnown}
 use Rattle.nest_lex.specs.Text.{Lexeme, Ending, Whole, Faulty, Reads, AreTokens, IsFault, bytes_of, names_of, names_with, kind_of, token_of}
 use Rattle.nest_lex.specs.declared.load.Load.{Load}

@@ -2,7 +2,7 @@
 use Rattle.std.proofs.Common.{ℕ, ◌+◌, ◌≤◌, not, List, length, take, arith}
 use Rattle.std.proofs.lemmas.List.Sums.{suffix_len-le-length, count_by-le-length}
 use Rattle.std.proofs.lemmas.Grind.{common_steps}
-use Rattle.nest_lex.specs.Places.{spot_of, is_line_feed}
+use Rattle.nest_lex.specs.Spots.{spot_of, is_line_feed}
 
 front_short : (text : List ℕ) (at : ℕ) → length (take at text) ≤ length text
 front_short text at = grind (arith, common_steps)

@@ -1,6 +1,6 @@
 pub mod Bytes
 pub mod Spelling
-pub mod Places
+pub mod Spots
 pub mod Pieces
 pub mod Load
 pub mod Text

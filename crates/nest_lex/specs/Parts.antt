@@ -3,7 +3,7 @@ use Rattle.std.specs.Prelude.{◌≡◌, ℕ, ◌+◌, ◌<◌, ◌≤◌, min, 
 use Rattle.std.specs.List.{list_all}
 use Rattle.nest_lex.specs.Bytes.{is_space}
 use Rattle.nest_lex.specs.Pieces.{IsLineEnd}
-use Rattle.nest_lex.specs.Places.{spot_of}
+use Rattle.nest_lex.specs.Spots.{spot_of}
 use Rattle.nest_lex.specs.declared.input.Marker.{Marker}
 use Rattle.nest_lex.specs.declared.input.Marker.TheVariants.{Data, Steps}
 use Rattle.nest_lex.specs.declared.input.Parts.{Parts}

@@ -2,7 +2,7 @@
 use Rattle.std.specs.Prelude.{◌≡◌, ℕ, ◌≤◌, true, List, [], ◌∷◌, ◌++◌, length, map}
 use Rattle.std.specs.List.{list_any}
 use Rattle.std.specs.Str.{bytes_eq}
-use Rattle.nest_lex.specs.Places.{spot_of}
+use Rattle.nest_lex.specs.Spots.{spot_of}
 use Rattle.nest_lex.specs.Load.{no_load, IsAllowed}
 use Rattle.nest_lex.specs.Text.{Lexeme, Ending, Reads, bytes_of, names_of, token_of}
 use Rattle.nest_lex.specs.declared.load.Load.{Load}

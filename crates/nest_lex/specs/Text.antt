@@ -3,7 +3,7 @@ use Rattle.std.specs.Prelude.{◌≡◌, ◌≢◌, ℕ, ◌+◌, ◌^◌, ◌<�
 use Rattle.std.specs.List.{list_any, position_or_len}
 use Rattle.std.specs.Str.{bytes_eq}
 use Rattle.nest_lex.specs.Bytes.{is_digit, is_blank}
-use Rattle.nest_lex.specs.Places.{spot_of}
+use Rattle.nest_lex.specs.Spots.{spot_of}
 use Rattle.nest_lex.specs.Pieces.{OpensLine, OpensBlock, ClosesBlock, Gaps, Stands}
 use Rattle.nest_lex.specs.Load.{no_load, load_after, IsAllowed}
 use Rattle.nest_lex.specs.declared.load.Load.{Load}

@@ -9,8 +9,8 @@ ghost use Rattle.nest_lex.specs.declared.input.Marker.TheVariants.{Steps};
 ghost use Rattle.nest_lex.specs.declared.input.Parts.{Parts};
 
 use crate::input::{Marker, MarkerLine, Parts};
-use crate::place::{START, spot_after};
 use crate::scan::{is_space, line_end};
+use crate::spot::{START, spot_after};
 
 fn marker_text(marker: Marker) -> &'static [u8]
     ensures { result.now ≡ text_of marker }

@@ -13,7 +13,7 @@ use std::alloc::Global;
 /// The tokens of a text, or its first fault.
 ///
 /// Names are numbered from 0 in the order of their first appearance. Lines and columns count from 1, columns in
-/// bytes. `Fault` comes exactly where the text has no tokens, with the first fault of the text and its place: a byte
+/// bytes. `Fault` comes exactly where the text has no tokens, with the first fault of the text and its spot: a byte
 /// that begins no token, the first digit of what is no number, the start of a comment that isn't ended, or the token
 /// that opens a 65th bracket or is the 129th of its run.
 pub fn lex(alloc: Global, bytes: &[u8]) -> Result<Tokens, LexRefused>
@@ -35,7 +35,7 @@ pub fn lex(alloc: Global, bytes: &[u8]) -> Result<Tokens, LexRefused>
 /// A text has one list of tokens or one first fault, and never both.
 pub fn one_answer()
     ensures tokens { (text : List ℕ) (r t : Tokens) → AreTokens text r → AreTokens text t → r ≡ t }
-    ensures fault { (text : List ℕ) (kind other : LexKind) (at place : Spot)
-        → IsFault text kind at → IsFault text other place → (kind ≡ other) × (at ≡ place) }
+    ensures fault { (text : List ℕ) (kind other : LexKind) (at spot : Spot)
+        → IsFault text kind at → IsFault text other spot → (kind ≡ other) × (at ≡ spot) }
     ensures never_both { (text : List ℕ) (t : Tokens) (kind : LexKind) (at : Spot) → AreTokens text t → IsFault text kind at → ⊥ }
 {}

@@ -1,7 +1,7 @@
 //! Tokens and parts of the input.
 //!
 //! `parts` divides an input into the nest, its data lines and its step words. `lex` gives the tokens of a nest with
-//! their places, or its first fault. `specs/Text.antt` says what both are (`AreTokens`, `IsFault`), `specs/Parts.antt`
+//! their spots, or its first fault. `specs/Text.antt` says what both are (`AreTokens`, `IsFault`), `specs/Parts.antt`
 //! what the parts are. `number_within` reads decimal digits, for numbers here and for values elsewhere.
 #![tactic(auto)]
 
@@ -13,11 +13,11 @@ mod load;
 mod names;
 mod number;
 mod piece;
-mod place;
 mod reader;
 mod refused;
 mod scan;
 mod spelling;
+mod spot;
 mod token;
 
 pub use divide::{one_division, parts};

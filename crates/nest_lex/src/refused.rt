@@ -10,9 +10,9 @@ pub enum LexKind {
     /// A byte that begins no token.
     Byte,
     /// Digits that are no number: a zero in front, a letter, a digit or `_` behind, or a value above 2^63 - 1. Their
-    /// place is the first digit.
+    /// spot is that of the first digit.
     Number,
-    /// A comment that isn't ended. Its place is its start.
+    /// A comment that isn't ended. Its spot is its start.
     Comment,
     /// A token that opens a 65th bracket, or is the 129th of its run.
     Dense,

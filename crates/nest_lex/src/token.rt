@@ -1,7 +1,7 @@
 use nest_syntax::Name;
 use sqlite_items::Items;
 
-/// A place in the text: its line and its column, both from 1. A column counts bytes.
+/// A spot of the text: its line and its column, both from 1. A column counts bytes.
 #[derive(Clone, Copy, Debug, PartialEq, Eq)]
 pub struct Spot {
     pub line: u32,
@@ -148,14 +148,14 @@ pub enum Kind {
     Mark(Mark),
 }
 
-/// A token and the place of its first byte.
+/// A token and the spot of its first byte.
 #[derive(Clone, Copy, Debug, PartialEq, Eq)]
 pub struct Token {
     pub kind: Kind,
     pub spot: Spot,
 }
 
-/// The tokens of a text in order, the names in the order of their first appearance, and the place just behind the
+/// The tokens of a text in order, the names in the order of their first appearance, and the spot just behind the
 /// last byte of the text.
 #[derive(Debug, Drop)]
 pub struct Tokens {

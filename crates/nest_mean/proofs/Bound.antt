@@ -9,20 +9,20 @@ use Rattle.nest_syntax.specs.declared.names.Line.{Line}
 use Rattle.nest_syntax.specs.declared.operators.Cause.{Cause}
 use Rattle.nest_syntax.specs.declared.operators.Cause.TheVariants as cause
 use Rattle.nest_syntax.specs.declared.tree.Expr.{Expr}
-use Rattle.nest_syntax.specs.declared.tree.Arm.{Arm, roll-Arm}
-use Rattle.nest_syntax.specs.declared.tree.Loop.{Loop, roll-Loop}
-use Rattle.nest_syntax.specs.declared.tree.Stmt.{Stmt, roll-Stmt}
-use Rattle.nest_syntax.specs.declared.tree.Stmt.TheOpen.{Stmt-F, Arm-F, Loop-F}
-use Rattle.nest_syntax.specs.declared.tree.Stmt.TheFolds.{map-Stmt, map-Arm, map-Loop, ind-Loop, para-roll-Stmt, para-roll-Arm, para-roll-Loop}
+use Rattle.nest_syntax.specs.declared.tree.Arm.{Arm}
+use Rattle.nest_syntax.specs.declared.tree.Loop.{Loop}
+use Rattle.nest_syntax.specs.declared.tree.Stmt.{Stmt}
 use Rattle.nest_syntax.specs.Words.{is_zero, operation_of, assigned, turns, counted, variable, most_turns}
 use Rattle.nest_syntax.specs.Arrays.{Array, arrays_of, sizes_of}
 use Rattle.nest_syntax.specs.Value.{value, and_then, names_written, scalar_at, with_scalar}
 use Rattle.nest_syntax.specs.Turn.{Turn}
 use Rattle.nest_syntax.specs.Reads.{on_words}
-use Rattle.nest_syntax.specs.Course.{Setting, Course, Purpose, Ordinary, Header, End, Failed, Scalar, Drain, Iterate, Close, Item, Tested, Looped, Layer_of_loop, computed, event, iterations, region_turns, in_order, chosen, bounds, item_node, tested_node, looped_node, item_of, tested_of, looped_of, region_of, setting_of, bodies_of, whole_of, opening_scalars}
+use Rattle.nest_syntax.specs.Course.{Setting, Course, Purpose, Ordinary, Header, End, Failed, Scalar, Drain, Iterate, Close, Item, Tested, Looped, Layer_of_arm, Layer_of_loop, computed, event, iterations, region_turns, in_order, chosen, bounds, tested_node, looped_node, item_of, tested_of, region_of, setting_of, bodies_of, whole_of, opening_scalars}
 use Rattle.nest_syntax.specs.Outcome.{turn_in, completed, events_from, iterations_among}
-use Rattle.nest_mean.specs.Nest.{Nest, CanRun}
 use Rattle.nest_mean.specs.Bound.{HasFewIterations}
+use Rattle.nest_syntax.specs.Among.{Each}
+use Rattle.nest_syntax.proofs.Equations.{item-declare, item-assign, item-write, item-if, item-loop, looped-is, tested-is}
+use Rattle.nest_syntax.proofs.Inductions.{stmt_induction}
 use Rattle.nest_syntax.proofs.Shapes.{regions_same}
 
 -- at most so many iterations, whatever the drains read
@@ -117,112 +117,86 @@ module _ (setting : Setting) where
   abbrev FewItem : Stmt → Type 0
   FewItem s = Few 16777216 (item_of setting s)
 
-  abbrev FewArm : Arm → Type 0
-  FewArm r = FewTested (tested_of setting r)
-
-  abbrev FewLoop : Loop → Type 0
-  FewLoop l = Few 16777216 (looped_of setting l).invocation × Few 281474976710656 (looped_of setting l).region
-
-  abbrev A_stmt : Type 0
-  A_stmt = (s : Stmt) × FewItem s
-
-  abbrev An_arm : Type 0
-  An_arm = (r : Arm) × FewArm r
-
-  abbrev A_loop : Type 0
-  A_loop = (l : Loop) × FewLoop l
-
   abbrev items_at : List Stmt → Item
   items_at stmts = in_order (map (λ (p : Stmt × Item). p.1) (map (λ q. (q, item_of setting q)) stmts))
 
   abbrev arms_at : List Arm → Item → Item
   arms_at arms other = chosen (map (λ (p : Arm × Tested). p.1) (map (λ q. (q, tested_of setting q)) arms)) other
 
-  few_items : (stmts : List A_stmt) → Few 16777216 (items_at (map (λ q. q.0) stmts))
-  few_items [] = few_none 16777216
-  few_items (q ∷ qs) = few_before 16777216 (item_of setting q.0) (items_at (map (λ p. p.0) qs)) q.1 (few_items qs)
+  few_items : (stmts : List Stmt) → Each FewItem stmts → Few 16777216 (items_at stmts)
+  few_items [] each = few_none 16777216
+  few_items (s ∷ stmts) each = few_before 16777216 (item_of setting s) (items_at stmts) each.0 (few_items stmts each.1)
 
-  few_arms : (arms : List An_arm) (other : Item) → Few 16777216 other → Few 16777216 (arms_at (map (λ q. q.0) arms) other)
-  few_arms [] other h = h
-  few_arms (q ∷ qs) other h = λ first scalars go n rest.
-      let arm = tested_of setting q.0 in
-      let others = arms_at (map (λ p. p.0) qs) other in
+  abbrev arm_at : Arm → Layer_of_arm
+  arm_at a = record { line = a.line; test = a.test; body = map (λ s. (s, item_of setting s)) a.body }
+
+  few_tested : (a : Arm) → Few 16777216 (items_at a.body) → FewTested (tested_node setting (arm_at a))
+  few_tested a items first scalars otherwise go n all within other h =
+      few_event a.line (λ words. value setting.arrays scalars words a.test) (λ test. if is_zero test then otherwise else (items_at a.body).events first scalars go) all
+      (λ words test is. by_test (is_zero test)) setting Ordinary scalars (a.test ∷ [])
+    where
+      by_test : (zero : Bool) → AtMost all (if zero then otherwise else (items_at a.body).events first scalars go)
+      by_test true = other
+      by_test false = more (16777216 * length (items_at a.body).bodies + n) all ((items_at a.body).events first scalars go) within (items first scalars go n h)
+
+  few_arms : (arms : List Arm) → Each (λ (a : Arm). Each FewItem a.body) arms → (other : Item) → Few 16777216 other → Few 16777216 (arms_at arms other)
+  few_arms [] each other h = h
+  few_arms (a ∷ arms) each other h = λ first scalars go n rest.
+      let arm = tested_of setting a in
+      let others = arms_at arms other in
       let longer = length-append arm.bodies others.bodies in
-      q.1 first scalars (others.events (first + length arm.bodies) scalars go) go n (16777216 * length (arm.bodies ++ others.bodies) + n) (omega (arith, longer))
-      (more (16777216 * length others.bodies + n) (16777216 * length (arm.bodies ++ others.bodies) + n) (others.events (first + length arm.bodies) scalars go) (omega (arith, longer)) (few_arms qs other h (first + length arm.bodies) scalars go n rest))
+      subst FewTested (sym (tested-is setting a)) (few_tested a (few_items a.body each.0)) first scalars (others.events (first + length arm.bodies) scalars go) go n (16777216 * length (arm.bodies ++ others.bodies) + n) (omega (arith, longer))
+      (more (16777216 * length others.bodies + n) (16777216 * length (arm.bodies ++ others.bodies) + n) (others.events (first + length arm.bodies) scalars go) (omega (arith, longer)) (few_arms arms each.1 other h (first + length arm.bodies) scalars go n rest))
       rest
 
   few_assignment : (line : Line) (expr : Expr) (compute : List ℤ → List ℤ → Result (List ℤ) Cause) → Few 16777216 (record { bodies = []; events = λ first scalars go. event setting Ordinary scalars line (expr ∷ []) (compute scalars) go })
   few_assignment line expr compute first scalars go n h = few_event line (compute scalars) go (16777216 * 0 + n) (λ words a is. more n (16777216 * 0 + n) (go a) (omega arith) (h a)) setting Ordinary scalars (expr ∷ [])
 
-  abbrev node_of : Stmt-F Stmt Arm Loop → Item
-  node_of x = item_node setting (map-Stmt Stmt Arm Loop (Stmt × Item) (Arm × Tested) (Loop × Looped) (λ q. (q, item_of setting q)) (λ q. (q, tested_of setting q)) (λ q. (q, looped_of setting q)) x)
+  abbrev loop_at : Loop → Layer_of_loop
+  loop_at l = record { line = l.line; name = l.name; low = l.low; high = l.high; through = l.through; step = l.step; body = map (λ s. (s, item_of setting s)) l.body }
 
-  layer : (y : Stmt-F A_stmt An_arm A_loop) → Few 16777216 (node_of (map-Stmt A_stmt An_arm A_loop Stmt Arm Loop (λ q. q.0) (λ q. q.0) (λ q. q.0) y))
-  layer (Stmt-F.Declare line name e) = few_assignment line e (λ scalars words. and_then (value setting.arrays scalars words e) (λ new. Ok (with_scalar scalars name new)))
-  layer (Stmt-F.Assign line name o e) = few_assignment line e (λ scalars words. and_then (value setting.arrays scalars words e) (λ right. and_then (assigned (operation_of o) (scalar_at scalars name) right) (λ new. Ok (with_scalar scalars name new))))
-  layer (Stmt-F.Write line name place o e) = λ first scalars go n h. more (1 + n) (16777216 * 1 + n) (iterations 1 0 first (λ k. scalars) scalars (go scalars)) (omega arith) (few_iterations 1 0 first (λ k. scalars) scalars (go scalars) n (h scalars))
-  layer (Stmt-F.If arms other) = few_arms arms (items_at (map (λ q. q.0) other)) (few_items other)
-  layer (Stmt-F.Loop l) = l.1.0
-
-  stmt_step : (x : Stmt-F Stmt Arm Loop) (y : Stmt-F A_stmt An_arm A_loop) → map-Stmt A_stmt An_arm A_loop Stmt Arm Loop (λ q. q.0) (λ q. q.0) (λ q. q.0) y ≡ x → FewItem (roll-Stmt x)
-  stmt_step x y is =
-      subst (Few 16777216) (sym (para-roll-Stmt Item Tested Looped (item_node setting) (tested_node setting) (looped_node setting) x))
-      (subst (λ z. Few 16777216 (node_of z)) is (layer y))
-
-  abbrev layer_of_arm : Arm-F Stmt Arm Loop → Arm-F (Stmt × Item) (Arm × Tested) (Loop × Looped)
-  layer_of_arm x = map-Arm Stmt Arm Loop (Stmt × Item) (Arm × Tested) (Loop × Looped) (λ q. (q, item_of setting q)) (λ q. (q, tested_of setting q)) (λ q. (q, looped_of setting q)) x
-
-  few_arm : (x : Arm-F Stmt Arm Loop) → Few 16777216 (items_at x.body) → FewTested (tested_node setting (layer_of_arm x))
-  few_arm x items first scalars otherwise go n all within other h =
-      few_event x.line (λ words. value setting.arrays scalars words x.test) (λ test. if is_zero test then otherwise else (items_at x.body).events first scalars go) all
-      (λ words test is. by_test (is_zero test)) setting Ordinary scalars (x.test ∷ [])
-    where
-      by_test : (zero : Bool) → AtMost all (if zero then otherwise else (items_at x.body).events first scalars go)
-      by_test true = other
-      by_test false = more (16777216 * length (items_at x.body).bodies + n) all ((items_at x.body).events first scalars go) within (items first scalars go n h)
-
-  arm_step : (x : Arm-F Stmt Arm Loop) (y : Arm-F A_stmt An_arm A_loop) → map-Arm A_stmt An_arm A_loop Stmt Arm Loop (λ q. q.0) (λ q. q.0) (λ q. q.0) y ≡ x → FewArm (roll-Arm x)
-  arm_step x y is =
-      subst FewTested (sym (para-roll-Arm Item Tested Looped (item_node setting) (tested_node setting) (looped_node setting) x))
-      (few_arm x (subst (λ (z : Arm-F Stmt Arm Loop). Few 16777216 (items_at z.body)) is (few_items y.body)))
-
-  abbrev layer_of_loop : Loop-F Stmt Arm Loop → Layer_of_loop
-  layer_of_loop x = map-Loop Stmt Arm Loop (Stmt × Item) (Arm × Tested) (Loop × Looped) (λ q. (q, item_of setting q)) (λ q. (q, tested_of setting q)) (λ q. (q, looped_of setting q)) x
-
-  few_loop : (x : Loop-F Stmt Arm Loop) → Few 16777216 (items_at x.body) → Few 16777216 (looped_node setting (layer_of_loop x)).invocation × Few 281474976710656 (looped_node setting (layer_of_loop x)).region
+  few_loop : (x : Loop) → Few 16777216 (items_at x.body) → Few 16777216 (looped_node setting (loop_at x)).invocation × Few 281474976710656 (looped_node setting (loop_at x)).region
   few_loop x items = (invocation, region)
     where
-      invocation : Few 16777216 (looped_node setting (layer_of_loop x)).invocation
-      invocation first scalars go n h = few_event x.line (bounds setting.arrays (layer_of_loop x) scalars) (λ b. iterations b.1 0 first (λ k. with_scalar scalars x.name (variable b.0 x.step k)) scalars (go scalars)) (16777216 * 1 + n)
-          (λ words b is. let few = few_bounds setting.arrays (layer_of_loop x) scalars words b is in
+      invocation : Few 16777216 (looped_node setting (loop_at x)).invocation
+      invocation first scalars go n h = few_event x.line (bounds setting.arrays (loop_at x) scalars) (λ b. iterations b.1 0 first (λ k. with_scalar scalars x.name (variable b.0 x.step k)) scalars (go scalars)) (16777216 * 1 + n)
+          (λ words b is. let few = few_bounds setting.arrays (loop_at x) scalars words b is in
           more (b.1 + n) (16777216 * 1 + n) (iterations b.1 0 first (λ k. with_scalar scalars x.name (variable b.0 x.step k)) scalars (go scalars)) (omega (arith, few)) (few_iterations b.1 0 first (λ k. with_scalar scalars x.name (variable b.0 x.step k)) scalars (go scalars) n (h scalars)))
           setting Header scalars (x.low ∷ x.high ∷ [])
 
-      region : Few 281474976710656 (looped_node setting (layer_of_loop x)).region
-      region first scalars go n h = few_event x.line (bounds setting.arrays (layer_of_loop x) scalars) (λ b. region_turns b.1 0 (variable b.0 x.step) x.name ((items_at x.body).events first) scalars go) (281474976710656 * length (items_at x.body).bodies + n)
-          (λ words b is. let few = mul-le-mul_left (16777216 * length (items_at x.body).bodies) (few_bounds setting.arrays (layer_of_loop x) scalars words b is) in
+      region : Few 281474976710656 (looped_node setting (loop_at x)).region
+      region first scalars go n h = few_event x.line (bounds setting.arrays (loop_at x) scalars) (λ b. region_turns b.1 0 (variable b.0 x.step) x.name ((items_at x.body).events first) scalars go) (281474976710656 * length (items_at x.body).bodies + n)
+          (λ words b is. let few = mul-le-mul_left (16777216 * length (items_at x.body).bodies) (few_bounds setting.arrays (loop_at x) scalars words b is) in
           more (b.1 * (16777216 * length (items_at x.body).bodies) + n) (281474976710656 * length (items_at x.body).bodies + n) (region_turns b.1 0 (variable b.0 x.step) x.name ((items_at x.body).events first) scalars go) (omega (arith, few)) (few_turns (items_at x.body) items b.1 0 (variable b.0 x.step) x.name first scalars go n h))
           setting Ordinary scalars (x.low ∷ x.high ∷ [])
 
-  loop_step : (x : Loop-F Stmt Arm Loop) (y : Loop-F A_stmt An_arm A_loop) → map-Loop A_stmt An_arm A_loop Stmt Arm Loop (λ q. q.0) (λ q. q.0) (λ q. q.0) y ≡ x → FewLoop (roll-Loop x)
-  loop_step x y is =
-      subst (λ (l : Looped). Few 16777216 l.invocation × Few 281474976710656 l.region) (sym (para-roll-Loop Item Tested Looped (item_node setting) (tested_node setting) (looped_node setting) x))
-      (few_loop x (subst (λ (z : Loop-F Stmt Arm Loop). Few 16777216 (items_at z.body)) is (few_items y.body)))
+  few_item : (s : Stmt) → FewItem s
+  few_item = stmt_induction FewItem
+      (λ line name e. subst (Few 16777216) (sym (item-declare setting line name e)) (few_assignment line e (λ scalars words. and_then (value setting.arrays scalars words e) (λ new. Ok (with_scalar scalars name new)))))
+      (λ line name o e. subst (Few 16777216) (sym (item-assign setting line name o e))
+      (few_assignment line e (λ scalars words. and_then (value setting.arrays scalars words e) (λ right. and_then (assigned (operation_of o) (scalar_at scalars name) right) (λ new. Ok (with_scalar scalars name new))))))
+      (λ line name p o e. subst (Few 16777216) (sym (item-write setting line name p o e))
+      (λ first scalars go n h. more (1 + n) (16777216 * 1 + n) (iterations 1 0 first (λ k. scalars) scalars (go scalars)) (omega arith) (few_iterations 1 0 first (λ k. scalars) scalars (go scalars) n (h scalars))))
+      (λ arms other in_arms in_other. subst (Few 16777216) (sym (item-if setting arms other)) (few_arms arms in_arms (items_at other) (few_items other in_other)))
+      (λ l inside. subst (Few 16777216) (sym (item-loop setting l ∙ ap (λ (x : Looped). x.invocation) (looped-is setting l))) (few_loop l (few_items l.body inside)).0)
 
-  few_looped : (l : Loop) → FewLoop l
-  few_looped = ind-Loop FewItem FewArm FewLoop stmt_step arm_step loop_step
+  each_few : (stmts : List Stmt) → Each FewItem stmts
+  each_few [] = tt
+  each_few (s ∷ stmts) = (few_item s, each_few stmts)
+
+  few_region : (l : Loop) → Few 281474976710656 (region_of setting l)
+  few_region l = subst (λ (x : Looped). Few 281474976710656 x.region) (sym (looped-is setting l)) (few_loop l (few_items l.body (each_few l.body))).1
 
   few_regions : (regions : List Loop) → Few 281474976710656 (in_order (map (region_of setting) regions))
   few_regions [] = few_none 281474976710656
-  few_regions (l ∷ ls) = few_before 281474976710656 (region_of setting l) (in_order (map (region_of setting) ls)) (few_looped l).1 (few_regions ls)
+  few_regions (l ∷ ls) = few_before 281474976710656 (region_of setting l) (in_order (map (region_of setting) ls)) (few_region l) (few_regions ls)
 
 pub has_few : HasFewIterations
-has_few nest runs =
+has_few nest few_bodies =
     let setting = setting_of nest.program nest.opening.words in
     let whole = whole_of nest.program nest.opening.words in
     let same : length (bodies_of nest.program) ≡ length whole.bodies = ap length (sym (regions_same setting nest.program.regions)) in
-    let within : 281474976710656 * length whole.bodies + 0 ≤ 2 ^ 60 = omega (arith, same, runs.few_bodies) in
+    let within : 281474976710656 * length whole.bodies + 0 ≤ 2 ^ 60 = omega (arith, same, few_bodies) in
     let course = whole.events 0 (opening_scalars nest.program) (λ after. End) in
     among (sizes_of (arrays_of nest.program.decls)) (turn_in (arrays_of nest.program.decls) (bodies_of nest.program)) course (2 ^ 60) (Some nest.opening.words)
     (more (281474976710656 * length whole.bodies + 0) (2 ^ 60) course within (few_regions setting nest.program.regions 0 (opening_scalars nest.program) (λ after. End) 0 (λ after. tt)))

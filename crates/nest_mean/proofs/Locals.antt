@@ -1,5 +1,6 @@
--- The locals of a body are among the names that it changes, and a turn begins with 0 for them.
-use Rattle.std.proofs.Common.{◌≡◌, ℕ, zero, suc, ◌==◌, ◌||◌, ℤ, pos, Bool, true, false, Result, Ok, Err, List, [], ◌∷◌, ◌++◌, map, length, refl, sym, ap, ◌∙◌, subst}
+-- The locals of a body are among the names that it changes, in a checked program they are all of these, and a turn begins
+-- with 0 for them.
+use Rattle.std.proofs.Common.{◌≡◌, ℕ, zero, suc, ◌==◌, ◌||◌, ℤ, pos, Bool, true, false, Result, Ok, Err, List, [], ◌∷◌, ◌++◌, map, refl, sym, ap, ◌∙◌, subst}
 use Rattle.std.proofs.lemmas.List.Folds.{list_any-append}
 use Rattle.std.specs.List.{concat}
 use Rattle.nest_syntax.specs.declared.tree.Arm.{Arm, roll-Arm}
@@ -7,12 +8,18 @@ use Rattle.nest_syntax.specs.declared.tree.Loop.{Loop, roll-Loop}
 use Rattle.nest_syntax.specs.declared.tree.Stmt.{Stmt, roll-Stmt}
 use Rattle.nest_syntax.specs.declared.tree.Stmt.TheOpen.{Stmt-F, Arm-F, Loop-F}
 use Rattle.nest_syntax.specs.declared.tree.Stmt.TheFolds.{map-Stmt, map-Arm, map-Loop, ind-Stmt, fold-roll-Stmt, fold-roll-Arm, fold-roll-Loop}
-use Rattle.nest_syntax.specs.Among.{is_among}
+use Rattle.nest_syntax.specs.declared.tree.Program.{Program}
+use Rattle.nest_syntax.specs.Among.{Each, is_among}
+use Rattle.nest_syntax.specs.Shape.{bodies_of}
+use Rattle.nest_syntax.specs.Outcome.{body_at}
 use Rattle.nest_syntax.specs.Arrays.{Array, sizes_of}
 use Rattle.nest_syntax.specs.Value.{scalar_at, with_scalar}
 use Rattle.nest_syntax.specs.Turn.{Finished, sequence, effect, turn_of}
 use Rattle.nest_syntax.specs.Reads.{on_words}
 use Rattle.nest_syntax.specs.Locals.{given, given_node, given_arm_node, given_loop_node, given_in_arm, given_in_loop, names_given, locals_of, with_zeros}
+use Rattle.nest_check.specs.Kept.{KeepsRules}
+use Rattle.body_names.specs.Laws.{AssignsLocals}
+use Rattle.body_names.proofs.Assigned.{bodies_assign}
 use Rattle.word_store.specs.Memory.{Memory}
 use Rattle.nest_mean.specs.declared.bodies.TurnTrap.{TurnTrap}
 use Rattle.nest_mean.specs.NamesChanged.{names_changed, KeepsOthers}
@@ -126,3 +133,12 @@ module _ (arrays : List Array) (body : List Stmt) (result : Result (Unit {0}) Tu
   turn_keeps = keeps_then (names_changed body) s start s'
       (subst (λ t. KeepsOthers (names_changed body) s t) (sym starts) (keeps_more (locals_of body) (names_changed body) s (with_zeros (locals_of body) s) (locals_changed body) (zeros_keep (locals_of body) s)))
       runs.kept
+
+-- a body of a checked program changes its locals alone
+assigns_at : (bodies : List (List Stmt)) → Each AssignsLocals bodies → (n : ℕ) → AssignsLocals (body_at bodies n)
+assigns_at [] each n = λ name apart. refl
+assigns_at (body ∷ bodies) each zero = each.0
+assigns_at (body ∷ bodies) each (suc n) = assigns_at bodies each.1 n
+
+pub assigns_locals : (program : Program) → KeepsRules program → (n : ℕ) → AssignsLocals (body_at (bodies_of program) n)
+assigns_locals program keeps n = assigns_at (bodies_of program) (bodies_assign program keeps.known keeps.variables keeps.scheduled) n

@@ -14,36 +14,37 @@ use Rattle.nest_syntax.specs.Value.{value, and_then, names_written, scalar_at, w
 use Rattle.nest_syntax.specs.Turn.{Turn, turn_of}
 use Rattle.nest_syntax.specs.Reads.{on_words}
 use Rattle.nest_syntax.specs.Course.{Setting, Course, Purpose, Iterate, Item, computed, event, iterations, region_turns}
-use Rattle.nest_syntax.specs.Outcome.{Ending, body_at, turn_in, behind, ending_from}
+use Rattle.nest_syntax.specs.Outcome.{body_at, turn_in}
 use Rattle.word_store.specs.Memory.{Memory}
 use Rattle.nest_mean.specs.declared.bodies.TurnTrap.{TurnTrap}
 use Rattle.nest_syntax.specs.declared.place.Place.{Place}
 use Rattle.nest_mean.specs.NamesChanged.{names_changed, changed_in_loop, KeepsOthers}
 use Rattle.nest_mean.specs.TurnRun.{ended}
 use Rattle.nest_mean.specs.CourseParts.{event_words, scalars_changed, at_iteration, next_number, Stand, Reaches, Passes, Iterates, IteratesAll, PassesTurns}
+use Rattle.nest_mean.specs.Finish.{Finish, finish_behind, finish_from}
 use Rattle.nest_mean.specs.Saved.{taken_over, AreSaved}
 use Rattle.nest_mean.proofs.Names.{among_here, among_behind, keeps_then, keeps_more, keeps_set}
 use Rattle.nest_syntax.proofs.Equations.{given_in_loop-is}
 use Rattle.nest_mean.proofs.Kept.{put_back_saved}
 
 -- a run that went another way before and came to the same
-pub reaches_from : {A : Type 0} (result : Result A Place) (next : A → Ending) (before after : Ending) → before ≡ after → Reaches result next after → Reaches result next before
-reaches_from (Ok r) next before after same reached = same ∙ reached
-reaches_from (Err place) next before after same reached = same ∙ reached
+pub reaches_from : {A : Type 0} (result : Result A Place) (words : List ℤ) (next : A → Finish) (before after : Finish) → before ≡ after → Reaches result words next after → Reaches result words next before
+reaches_from (Ok r) words next before after same reached = same ∙ reached
+reaches_from (Err place) words next before after same reached = same ∙ reached
 
 -- a run that goes on otherwise to the same
-pub reaches_to : {A : Type 0} (result : Result A Place) (next next' : A → Ending) (ending : Ending) → ((r : A) → next r ≡ next' r) → Reaches result next ending → Reaches result next' ending
-reaches_to (Ok r) next next' ending same reached = reached ∙ same r
-reaches_to (Err place) next next' ending same reached = reached
+pub reaches_to : {A : Type 0} (result : Result A Place) (words : List ℤ) (next next' : A → Finish) (finish : Finish) → ((r : A) → next r ≡ next' r) → Reaches result words next finish → Reaches result words next' finish
+reaches_to (Ok r) words next next' finish same reached = reached ∙ same r
+reaches_to (Err place) words next next' finish same reached = reached
 
 -- an event is evaluated on its words
 pub event_is : {A : Type 0} (setting : Setting) (purpose : Purpose) (scalars : List ℤ) (line : Line) (exprs : List Expr) (compute : List ℤ → Result A Cause) (go : A → Course)
     (sizes : List ℕ) (turn : ℕ → List ℤ → Turn) (k : ℕ) (words : List ℤ)
-    → ending_from sizes turn (event setting purpose scalars line exprs compute go) k words ≡ ending_from sizes turn (computed line (compute (event_words setting.arrays exprs words setting.words)) go) k words
+    → finish_from sizes turn (event setting purpose scalars line exprs compute go) k words ≡ finish_from sizes turn (computed line (compute (event_words setting.arrays exprs words setting.words)) go) k words
 event_is {A} setting purpose scalars line exprs compute go sizes turn k words = by_kind (list_any (names_written setting.arrays) exprs)
   where
-    by_kind : (drains : Bool) → ending_from sizes turn (if drains then Course.Drain purpose scalars (λ ws. computed line (compute ws) go) else Course.Scalar purpose scalars (computed line (compute setting.words) go)) k words
-        ≡ ending_from sizes turn (computed line (compute (if drains then words else setting.words)) go) k words
+    by_kind : (drains : Bool) → finish_from sizes turn (if drains then Course.Drain purpose scalars (λ ws. computed line (compute ws) go) else Course.Scalar purpose scalars (computed line (compute setting.words) go)) k words
+        ≡ finish_from sizes turn (computed line (compute (if drains then words else setting.words)) go) k words
     by_kind true = refl
     by_kind false = refl
 
@@ -62,8 +63,8 @@ module _ (arrays : List Array) where
       → Iterates arrays body names result s n m s' n' m'
   iterates body names turned result s n m s' n' m' turn sizes kept answer count = record {
     same = λ bodies at is rest.
-        reaches_from result _ _ _ (ap (λ b. behind n (on_words (sizes_of arrays) (turn_of arrays b s) m.words) (ending_from (sizes_of arrays) (turn_in arrays bodies) rest (suc n))) is
-        ∙ ap (λ e. behind n e (ending_from (sizes_of arrays) (turn_in arrays bodies) rest (suc n))) turn)
+        reaches_from result _ _ _ _ (ap (λ b. finish_behind n (on_words (sizes_of arrays) (turn_of arrays b s) m.words) (finish_from (sizes_of arrays) (turn_in arrays bodies) rest (suc n))) is
+        ∙ ap (λ e. finish_behind n e (finish_from (sizes_of arrays) (turn_in arrays bodies) rest (suc n))) turn)
         (by_end bodies rest turned answer count);
     sizes = sizes;
     few = few turned count;
@@ -71,10 +72,10 @@ module _ (arrays : List Array) where
   }
     where
       by_end : (bodies : List (List Stmt)) (rest : Course) (e : Result (Unit {0}) TurnTrap) → result ≡ at_iteration n e → n' ≡ next_number n e
-          → Reaches result (λ done. ending_from (sizes_of arrays) (turn_in arrays bodies) rest n' m'.words) (behind n (ended e m'.words) (ending_from (sizes_of arrays) (turn_in arrays bodies) rest (suc n)))
-      by_end bodies rest (Ok done) answer count = subst (λ r. Reaches r (λ _. ending_from (sizes_of arrays) (turn_in arrays bodies) rest n' m'.words) (ending_from (sizes_of arrays) (turn_in arrays bodies) rest (suc n) m'.words))
-          (sym answer) (ap (λ k. ending_from (sizes_of arrays) (turn_in arrays bodies) rest k m'.words) (sym (count ∙ add-one n)))
-      by_end bodies rest (Err trap) answer count = subst (λ r. Reaches r (λ _. ending_from (sizes_of arrays) (turn_in arrays bodies) rest n' m'.words) (behind n (ended (Err trap) m'.words) (ending_from (sizes_of arrays) (turn_in arrays bodies) rest (suc n))))
+          → Reaches result m'.words (λ done. finish_from (sizes_of arrays) (turn_in arrays bodies) rest n' m'.words) (finish_behind n (ended e m'.words) (finish_from (sizes_of arrays) (turn_in arrays bodies) rest (suc n)))
+      by_end bodies rest (Ok done) answer count = subst (λ r. Reaches r m'.words (λ _. finish_from (sizes_of arrays) (turn_in arrays bodies) rest n' m'.words) (finish_from (sizes_of arrays) (turn_in arrays bodies) rest (suc n) m'.words))
+          (sym answer) (ap (λ k. finish_from (sizes_of arrays) (turn_in arrays bodies) rest k m'.words) (sym (count ∙ add-one n)))
+      by_end bodies rest (Err trap) answer count = subst (λ r. Reaches r m'.words (λ _. finish_from (sizes_of arrays) (turn_in arrays bodies) rest n' m'.words) (finish_behind n (ended (Err trap) m'.words) (finish_from (sizes_of arrays) (turn_in arrays bodies) rest (suc n))))
           (sym answer) refl
 
       few : (e : Result (Unit {0}) TurnTrap) → n' ≡ next_number n e → n' ≤ n + 1
@@ -86,32 +87,32 @@ module _ (arrays : List Array) where
     abbrev scalars_in : ℕ → List ℤ
     scalars_in k = with_scalar s₀ invoked.name (variable low invoked.step k)
 
-    abbrev ending_with : List (List Stmt) → Course → ℕ → Memory → Ending
-    ending_with bodies course n m = ending_from (sizes_of arrays) (turn_in arrays bodies) course n m.words
+    abbrev finish_with : List (List Stmt) → Course → ℕ → Memory → Finish
+    finish_with bodies course n m = finish_from (sizes_of arrays) (turn_in arrays bodies) course n m.words
 
     pub record IsIterated (k : ℕ) (s : List ℤ) (n : ℕ) (m : Memory) : Type 0 where
       pub scalars : s ≡ s₀
-      pub same : (bodies : List (List Stmt)) (at : ℕ) → body_at bodies at ≡ invoked.body → (rest : Course) → ending_with bodies (iterations count 0 at scalars_in s₀ rest) n₀ m₀ ≡ ending_with bodies (iterations (count - k) k at scalars_in s₀ rest) n m
+      pub same : (bodies : List (List Stmt)) (at : ℕ) → body_at bodies at ≡ invoked.body → (rest : Course) → finish_with bodies (iterations count 0 at scalars_in s₀ rest) n₀ m₀ ≡ finish_with bodies (iterations (count - k) k at scalars_in s₀ rest) n m
       pub sizes : m.sizes ≡ m₀.sizes
       pub few : n ≤ n₀ + k
 
     pub iterations_begin : IsIterated 0 s₀ n₀ m₀
     iterations_begin = let all : count ≡ count - 0 = omega arith in record {
       scalars = refl;
-      same = λ bodies at is rest. ap (λ c. ending_with bodies (iterations c 0 at scalars_in s₀ rest) n₀ m₀) all;
+      same = λ bodies at is rest. ap (λ c. finish_with bodies (iterations c 0 at scalars_in s₀ rest) n₀ m₀) all;
       sizes = refl;
       few = omega arith;
     }
 
     module _ (k : ℕ) (there : k < count) (s : List ℤ) (n : ℕ) (m : Memory) (iterated : IsIterated k s n m) (start : List ℤ) (start_is : start ≡ with_scalar s invoked.name (variable low invoked.step k)) (s' : List ℤ) (n' : ℕ) (m' : Memory) where
       round : (bodies : List (List Stmt)) (at : ℕ) → body_at bodies at ≡ invoked.body → (rest : Course)
-          → ending_with bodies (iterations count 0 at scalars_in s₀ rest) n₀ m₀ ≡ ending_with bodies (Iterate at start (iterations (count - (k + 1)) (k + 1) at scalars_in s₀ rest)) n m
+          → finish_with bodies (iterations count 0 at scalars_in s₀ rest) n₀ m₀ ≡ finish_with bodies (Iterate at start (iterations (count - (k + 1)) (k + 1) at scalars_in s₀ rest)) n m
       round bodies at is rest =
           let left : count - k ≡ suc (count - (k + 1)) = omega arith in
           let begin : scalars_in k ≡ start = ap (λ t. with_scalar t invoked.name (variable low invoked.step k)) (sym iterated.scalars) ∙ sym start_is in
-          iterated.same bodies at is rest ∙ ap (λ c. ending_with bodies (iterations c k at scalars_in s₀ rest) n m) left
-          ∙ ap (λ t. ending_with bodies (Iterate at t (iterations (count - (k + 1)) (suc k) at scalars_in s₀ rest)) n m) begin
-          ∙ ap (λ j. ending_with bodies (Iterate at start (iterations (count - (k + 1)) j at scalars_in s₀ rest)) n m) (sym (add-one k))
+          iterated.same bodies at is rest ∙ ap (λ c. finish_with bodies (iterations c k at scalars_in s₀ rest) n m) left
+          ∙ ap (λ t. finish_with bodies (Iterate at t (iterations (count - (k + 1)) (suc k) at scalars_in s₀ rest)) n m) begin
+          ∙ ap (λ j. finish_with bodies (Iterate at start (iterations (count - (k + 1)) j at scalars_in s₀ rest)) n m) (sym (add-one k))
 
       pub iteration_runs : (saved s'' : List ℤ) → AreSaved (changed_in_loop invoked) s₀ saved → Iterates arrays invoked.body (names_changed invoked.body) (Ok tt) start n m s' n' m' → s'' ≡ taken_over (changed_in_loop invoked) saved s' → IsIterated (k + 1) s'' n' m'
       iteration_runs saved s'' are_saved ran back = record {
@@ -139,7 +140,7 @@ module _ (arrays : List Array) where
     iterations_end k s n m over within iterated = record {
       same = λ bodies at is go.
           let none : count - k ≡ 0 = omega arith in
-          iterated.same bodies at is (go s₀) ∙ ap (λ c. ending_with bodies (iterations c k at scalars_in s₀ (go s₀)) n m) none ∙ ap (λ t. ending_with bodies (go t) n m) (sym iterated.scalars);
+          iterated.same bodies at is (go s₀) ∙ ap (λ c. finish_with bodies (iterations c k at scalars_in s₀ (go s₀)) n m) none ∙ ap (λ t. finish_with bodies (go t) n m) (sym iterated.scalars);
       sizes = iterated.sizes;
       few = omega (arith, iterated.few);
     }
@@ -149,29 +150,29 @@ module _ (arrays : List Array) where
     abbrev turns_left : ℕ → ℕ → ℕ → List ℤ → (List ℤ → Course) → Course
     turns_left c k first = region_turns c k (variable low region.step) region.name (items.events first)
 
-    abbrev ending_of : List (List Stmt) → Course → ℕ → Memory → Ending
-    ending_of bodies course n m = ending_from (sizes_of arrays) (turn_in arrays bodies) course n m.words
+    abbrev finish_of : List (List Stmt) → Course → ℕ → Memory → Finish
+    finish_of bodies course n m = finish_from (sizes_of arrays) (turn_in arrays bodies) course n m.words
 
     pub record IsTurned (k : ℕ) (s : List ℤ) (n : ℕ) (m : Memory) : Type 0 where
-      pub same : (bodies : List (List Stmt)) (first : ℕ) → Stand bodies first items.bodies → (go : List ℤ → Course) → ending_of bodies (turns_left count 0 first s₀ go) n₀ m₀ ≡ ending_of bodies (turns_left (count - k) k first s go) n m
+      pub same : (bodies : List (List Stmt)) (first : ℕ) → Stand bodies first items.bodies → (go : List ℤ → Course) → finish_of bodies (turns_left count 0 first s₀ go) n₀ m₀ ≡ finish_of bodies (turns_left (count - k) k first s go) n m
       pub sizes : m.sizes ≡ m₀.sizes
       pub few : n ≤ n₀ + k * (16777216 * length items.bodies)
 
     pub region_begins : IsTurned 0 s₀ n₀ m₀
     region_begins = let all : count ≡ count - 0 = omega arith in record {
-      same = λ bodies first stands go. ap (λ c. ending_of bodies (turns_left c 0 first s₀ go) n₀ m₀) all;
+      same = λ bodies first stands go. ap (λ c. finish_of bodies (turns_left c 0 first s₀ go) n₀ m₀) all;
       sizes = refl;
       few = omega arith;
     }
 
     module _ (k : ℕ) (there : k < count) (s : List ℤ) (n : ℕ) (m : Memory) (turned : IsTurned k s n m) (start : List ℤ) (start_is : start ≡ with_scalar s region.name (variable low region.step k)) (s' : List ℤ) (n' : ℕ) (m' : Memory) where
       turn : (bodies : List (List Stmt)) (first : ℕ) → Stand bodies first items.bodies → (go : List ℤ → Course)
-          → ending_of bodies (turns_left count 0 first s₀ go) n₀ m₀ ≡ ending_of bodies (items.events first start (λ after. turns_left (count - (k + 1)) (k + 1) first after go)) n m
+          → finish_of bodies (turns_left count 0 first s₀ go) n₀ m₀ ≡ finish_of bodies (items.events first start (λ after. turns_left (count - (k + 1)) (k + 1) first after go)) n m
       turn bodies first stands go =
           let left : count - k ≡ suc (count - (k + 1)) = omega arith in
-          turned.same bodies first stands go ∙ ap (λ c. ending_of bodies (turns_left c k first s go) n m) left
-          ∙ ap (λ t. ending_of bodies (items.events first t (λ after. turns_left (count - (k + 1)) (suc k) first after go)) n m) (sym start_is)
-          ∙ ap (λ j. ending_of bodies (items.events first start (λ after. turns_left (count - (k + 1)) j first after go)) n m) (sym (add-one k))
+          turned.same bodies first stands go ∙ ap (λ c. finish_of bodies (turns_left c k first s go) n m) left
+          ∙ ap (λ t. finish_of bodies (items.events first t (λ after. turns_left (count - (k + 1)) (suc k) first after go)) n m) (sym start_is)
+          ∙ ap (λ j. finish_of bodies (items.events first start (λ after. turns_left (count - (k + 1)) j first after go)) n m) (sym (add-one k))
 
       pub turn_passes : Passes arrays items 16777216 (Ok tt) start n m s' n' m' → IsTurned (k + 1) s' n' m'
       turn_passes passed = record {
@@ -194,7 +195,7 @@ module _ (arrays : List Array) where
     region_ends k s n m over turned = record {
       same = λ bodies first stands go.
           let none : count - k ≡ 0 = omega arith in
-          turned.same bodies first stands go ∙ ap (λ c. ending_of bodies (turns_left c k first s go) n m) none;
+          turned.same bodies first stands go ∙ ap (λ c. finish_of bodies (turns_left c k first s go) n m) none;
       sizes = turned.sizes;
       few = subst (λ c. n ≤ n₀ + c * (16777216 * length items.bodies)) (sym over) turned.few;
     }

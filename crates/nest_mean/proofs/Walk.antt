@@ -16,11 +16,12 @@ use Rattle.nest_syntax.specs.Words.{is_zero, variable}
 use Rattle.nest_syntax.specs.Arrays.{Array, sizes_of}
 use Rattle.nest_syntax.specs.Value.{value, with_scalar}
 use Rattle.nest_syntax.specs.Course.{Setting, Course, Ordinary, Header, Item, Tested, computed, event, iterations, region_turns, in_order, chosen, item_of, item_node, looped_of, region_of, tested_of}
-use Rattle.nest_syntax.specs.Outcome.{Ending, TrappedAt, place_of_trap, turn_in, ending_from}
+use Rattle.nest_syntax.specs.Outcome.{place_of_trap, turn_in}
 use Rattle.nest_syntax.proofs.Equations.{tested-is, looped-is, item-declare, item-assign, item-write, item-if, item-loop, given-write}
 use Rattle.word_store.specs.Memory.{Memory}
 use Rattle.nest_syntax.specs.declared.place.Place.{Place}
 use Rattle.nest_mean.specs.NamesChanged.{names_changed, KeepsOthers}
+use Rattle.nest_mean.specs.Finish.{Finish, trapped_with, finish_from}
 use Rattle.nest_mean.specs.CourseParts.{event_words, header, scalars_changed, with_result, at_scheduler, Stand, Reaches, Passes, bodies_in, PassesArms, Iterates, IteratesAll, PassesTurns, items_in}
 use Rattle.nest_mean.proofs.Rounds.{reaches_from, reaches_to, event_is}
 
@@ -44,8 +45,8 @@ module _ (arrays : List Array) (opening : List ℤ) where
   abbrev pub setting : Setting
   setting = record { arrays = arrays; words = opening }
 
-  abbrev ends : List (List Stmt) → Course → ℕ → Memory → Ending
-  ends bodies course n m = ending_from (sizes_of arrays) (turn_in arrays bodies) course n m.words
+  abbrev ends : List (List Stmt) → Course → ℕ → Memory → Finish
+  ends bodies course n m = finish_from (sizes_of arrays) (turn_in arrays bodies) course n m.words
 
   -- an item before others
   abbrev pub before : Item → Item → Item
@@ -152,7 +153,7 @@ module _ (arrays : List Array) (opening : List ℤ) where
       → Passes arrays (item_node setting (Stmt-F.Assign line name o e)) 16777216 result s n m s' n m
   item_assigns line name o e changed' result s n m s' is answer = record {
     same = λ bodies first stands go.
-        reaches_from result _ _ _
+        reaches_from result _ _ _ _
         (event_is setting Ordinary s line (e ∷ []) (scalars_changed arrays name o e s) go (sizes_of arrays) (turn_in arrays bodies) n m.words
         ∙ ap (λ r. ends bodies (computed line r go) n m) (sym is))
         (by_result bodies go changed' answer);
@@ -161,9 +162,9 @@ module _ (arrays : List Array) (opening : List ℤ) where
   }
     where
       by_result : (bodies : List (List Stmt)) (go : List ℤ → Course) (c : Result (Unit {0}) Cause) → result ≡ at_scheduler line n c
-          → Reaches result (λ done. ends bodies (go s') n m) (ends bodies (computed line (with_result c s') go) n m)
-      by_result bodies go (Ok done) answer = subst (λ r. Reaches r (λ done. ends bodies (go s') n m) (ends bodies (go s') n m)) (sym answer) refl
-      by_result bodies go (Err cause) answer = subst (λ r. Reaches r (λ done. ends bodies (go s') n m) (TrappedAt (place_of_trap cause line n true))) (sym answer) refl
+          → Reaches result m.words (λ done. ends bodies (go s') n m) (ends bodies (computed line (with_result c s') go) n m)
+      by_result bodies go (Ok done) answer = subst (λ r. Reaches r m.words (λ done. ends bodies (go s') n m) (ends bodies (go s') n m)) (sym answer) refl
+      by_result bodies go (Err cause) answer = subst (λ r. Reaches r m.words (λ done. ends bodies (go s') n m) (trapped_with (place_of_trap cause line n true) m.words)) (sym answer) refl
 
   pub item_assign : (line : Line) (name : ℕ) (o : Op) (e : Expr) (changed' : Result (Unit {0}) Cause) (result : Result (Unit {0}) Place) (s : List ℤ) (n : ℕ) (m : Memory) (s' : List ℤ)
       → with_result changed' s' ≡ scalars_changed arrays name o e s (event_words arrays (e ∷ []) m.words opening) → result ≡ at_scheduler line n changed'
@@ -179,7 +180,7 @@ module _ (arrays : List Array) (opening : List ℤ) where
   pub item_write : (line : Line) (name : ℕ) (place : Expr) (o : Op) (e : Expr) (result : Result (Unit {0}) Place) (s : List ℤ) (n : ℕ) (m : Memory) (s' : List ℤ) (n' : ℕ) (m' : Memory)
       → Iterates arrays (stmt.Write line name place o e ∷ []) (names_changed (stmt.Write line name place o e ∷ [])) result s n m s' n' m' → Passes arrays (item_of setting (stmt.Write line name place o e)) 16777216 result s n m s' n' m'
   item_write line name place o e result s n m s' n' m' ran = passes_as _ _ _ _ _ _ _ _ _ _ (item-write setting line name place o e) (record {
-    same = λ bodies first stands go. reaches_to result (λ done. ends bodies (go s) n' m') (λ done. ends bodies (go s') n' m') _ (λ done. ap (λ t. ends bodies (go t) n' m') (sym same_scalars)) (ran.same bodies first stands.0 (Course.Close s (go s)));
+    same = λ bodies first stands go. reaches_to result _ (λ done. ends bodies (go s) n' m') (λ done. ends bodies (go s') n' m') _ (λ done. ap (λ t. ends bodies (go t) n' m') (sym same_scalars)) (ran.same bodies first stands.0 (Course.Close s (go s)));
     sizes = ran.sizes;
     few = omega (arith, ran.few);
   })
@@ -225,7 +226,7 @@ module _ (arrays : List Array) (opening : List ℤ) where
         → (result : Result (Unit {0}) Place) (s' : List ℤ) (n' : ℕ) (m' : Memory) → IteratesAll arrays l low count result s n m s' n' m' → Passes arrays (looped_of setting l).invocation 16777216 result s n m s' n' m'
     invocation_runs low count is few result s' n' m' ran = passes_as _ _ _ _ _ _ _ _ _ _ (invocation-is l) (record {
       same = λ bodies first stands go.
-          reaches_from result _ _ _
+          reaches_from result _ _ _ _
           (event_is setting Header s l.line (l.low ∷ l.high ∷ []) (header arrays l s) (λ b. iterations b.1 0 first (λ k. with_scalar s l.name (variable b.0 l.step k)) s (go s)) (sizes_of arrays) (turn_in arrays bodies) n m.words
           ∙ ap (λ r. ends bodies (computed l.line r (λ b. iterations b.1 0 first (λ k. with_scalar s l.name (variable b.0 l.step k)) s (go s))) n m) (sym is))
           (ran.same bodies first stands.0 go);
@@ -247,7 +248,7 @@ module _ (arrays : List Array) (opening : List ℤ) where
         → (result : Result (Unit {0}) Place) (s' : List ℤ) (n' : ℕ) (m' : Memory) → PassesTurns arrays (items_in setting l.body) l low count result s n m s' n' m' → Passes arrays (region_of setting l) 281474976710656 result s n m s' n' m'
     region_runs low count is few result s' n' m' ran = passes_as _ _ _ _ _ _ _ _ _ _ (region-is l) (record {
       same = λ bodies first stands go.
-          reaches_from result _ _ _
+          reaches_from result _ _ _ _
           (event_is setting Ordinary s l.line (l.low ∷ l.high ∷ []) (header arrays l s) (λ b. region_turns b.1 0 (variable b.0 l.step) l.name ((items_in setting l.body).events first) s go) (sizes_of arrays) (turn_in arrays bodies) n m.words
           ∙ ap (λ r. ends bodies (computed l.line r (λ b. region_turns b.1 0 (variable b.0 l.step) l.name ((items_in setting l.body).events first) s go)) n m) (sym is))
           (ran.same bodies first stands go);
@@ -448,7 +449,7 @@ module _ (arrays : List Array) (opening : List ℤ) where
         → Passes arrays (item_of setting (stmt.If arms other)) 16777216 result s n m s'' n'' m''
     if_goes_on result s'' n'' m'' passed others = passes_as if_item _ _ _ _ _ _ _ _ _ if-is (record {
       same = λ bodies first stands go.
-          reaches_from result _ _ _ (passed.same bodies first (items_in setting other) stands go)
+          reaches_from result _ _ _ _ (passed.same bodies first (items_in setting other) stands go)
           (others.same bodies (first + bodies_in (map (tested_of setting) arms)) (other_stands bodies first (map (tested_of setting) arms) (items_in setting other) stands) go);
       sizes = others.sizes ∙ passed.sizes;
       few = omega (arith, passed.few, others.few, bodies_split (map (tested_of setting) arms) (items_in setting other));

@@ -1,17 +1,34 @@
 -- The outcome of a nest, from how its regions are carried out.
-use Rattle.std.proofs.Common.{◌≡◌, ℕ, ◌+◌, ◌*◌, ◌^◌, ◌<◌, ℤ, Result, Ok, Err, List, [], map, length, refl, sym, ap, ◌∙◌, subst, arith}
+use Rattle.std.proofs.Common.{◌≡◌, ℕ, suc, ◌+◌, ◌*◌, ◌^◌, ◌<◌, ℤ, Result, Ok, Err, List, map, length, refl, sym, ap, ◌∙◌, subst, arith}
 use Rattle.nest_syntax.specs.declared.tree.Loop.{Loop}
 use Rattle.nest_syntax.specs.declared.tree.Program.{Program}
-use Rattle.nest_syntax.specs.Arrays.{arrays_of}
-use Rattle.nest_syntax.specs.Course.{Item, in_order, region_of, bodies_of, opening_scalars, End}
+use Rattle.nest_syntax.specs.Arrays.{Array, arrays_of, sizes_of}
+use Rattle.nest_syntax.specs.Turn.{Turn}
+use Rattle.nest_syntax.specs.Reads.{Ended, Completed, Stopped, on_words}
+use Rattle.nest_syntax.specs.Course.{Course, Item, in_order, region_of, bodies_of, course_of, opening_scalars, End, Failed, Scalar, Drain, Iterate, Close}
+use Rattle.nest_syntax.specs.Outcome.{Done, turn_in, behind, ending_from, ending}
 use Rattle.word_store.specs.Memory.{Memory}
 use Rattle.nest_syntax.specs.declared.place.Place.{Place}
 use Rattle.nest_mean.specs.declared.outcomes.Outcome.TheVariants as outcomes
 use Rattle.nest_mean.specs.Nest.{Nest, CanRun}
 use Rattle.nest_mean.specs.Outcomes.{as_outcome, outcome}
+use Rattle.nest_mean.specs.Finish.{Finish, trapped_with, finish_behind, finish_from}
 use Rattle.nest_mean.specs.CourseParts.{Stand, Passes, setting_on}
 use Rattle.nest_syntax.proofs.Shapes.{regions_same}
 use Rattle.nest_mean.proofs.Sameness.{stand_all}
+
+-- the ending of a run is the same, with its words or without
+finish-ending : (sizes : List ℕ) (turn : ℕ → List ℤ → Turn) (course : Course) (k : ℕ) (words : List ℤ) → (finish_from sizes turn course k words).ending ≡ ending_from sizes turn course k words
+finish-ending sizes turn End k words = refl
+finish-ending sizes turn (Failed cause line) k words = refl
+finish-ending sizes turn (Scalar purpose scalars rest) k words = finish-ending sizes turn rest k words
+finish-ending sizes turn (Drain purpose scalars rest) k words = finish-ending sizes turn (rest words) k words
+finish-ending sizes turn (Close scalars rest) k words = finish-ending sizes turn rest k words
+finish-ending sizes turn (Iterate body scalars rest) k words = by_end (on_words sizes (turn body scalars) words) (finish-ending sizes turn rest (suc k))
+  where
+    by_end : (e : Ended) → ((w : List ℤ) → (finish_from sizes turn rest (suc k) w).ending ≡ ending_from sizes turn rest (suc k) w) → (finish_behind k e (finish_from sizes turn rest (suc k))).ending ≡ behind k e (ending_from sizes turn rest (suc k))
+    by_end (Completed w) same = same w
+    by_end (Stopped cause line w) same = refl
 
 module _ (nest : Nest) (runs : CanRun nest) where
   abbrev regions : Item
@@ -27,16 +44,22 @@ module _ (nest : Nest) (runs : CanRun nest) where
   bodies_stand = subst (λ bodies. Stand (bodies_of nest.program) 0 bodies) bodies_are (stand_all (bodies_of nest.program))
 
   module _ (s' : List ℤ) (n' : ℕ) (m' : Memory) where
+    abbrev arrays : List Array
+    arrays = arrays_of nest.program.decls
+
     abbrev RegionsPass : Result (Unit {0}) Place → Type 0
     RegionsPass result = Passes (arrays_of nest.program.decls) regions 281474976710656 result (opening_scalars nest.program) 0 nest.opening s' n' m'
+
+    ends_in : (finish : Finish) → finish_from (sizes_of arrays) (turn_in arrays (bodies_of nest.program)) (course_of nest.program nest.opening.words) 0 nest.opening.words ≡ finish → ending nest.program nest.opening.words ≡ finish.ending
+    ends_in finish is = sym (finish-ending (sizes_of arrays) (turn_in arrays (bodies_of nest.program)) (course_of nest.program nest.opening.words) 0 nest.opening.words) ∙ ap (λ (f : Finish). f.ending) is
 
     pub run_is_done : RegionsPass (Ok tt) → outcomes.Done m' ≡ outcome nest
     run_is_done passed =
         ap (λ sizes. outcomes.Done (record { sizes = sizes; words = m'.words })) passed.sizes
-        ∙ ap (as_outcome nest.opening.sizes) (sym (passed.same (bodies_of nest.program) 0 bodies_stand (λ after. End)))
+        ∙ ap (as_outcome nest.opening.sizes) (sym (ends_in (record { ending = Done m'.words; words = m'.words }) (passed.same (bodies_of nest.program) 0 bodies_stand (λ after. End))))
 
     pub run_traps : (place : Place) → RegionsPass (Err place) → outcomes.Trapped place ≡ outcome nest
-    run_traps place passed = ap (as_outcome nest.opening.sizes) (sym (passed.same (bodies_of nest.program) 0 bodies_stand (λ after. End)))
+    run_traps place passed = ap (as_outcome nest.opening.sizes) (sym (ends_in (trapped_with place m'.words) (passed.same (bodies_of nest.program) 0 bodies_stand (λ after. End))))
 
   -- the same, of what a caller has at hand
   pub regions_given : (program : Program) (opening m : Memory) (s : List ℤ) (listed : List Loop) (result : Result (Unit {0}) Place) (n : ℕ) (s' : List ℤ) (n' : ℕ) (m' : Memory)

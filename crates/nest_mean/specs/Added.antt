@@ -1,4 +1,4 @@
--- Names that are added to others.
+-- No caller of `run_plain` needs this. Names that are added to others.
 use Rattle.std.specs.Prelude.{◌≡◌, ℕ, ◌||◌, List}
 use Rattle.nest_syntax.specs.Among.{is_among}
 

@@ -1,8 +1,10 @@
 -- How many iterations a nest has.
 use Rattle.std.specs.Prelude.{◌≤◌, ◌^◌, length}
+use Rattle.nest_syntax.specs.Course.{bodies_of}
 use Rattle.nest_syntax.specs.Outcome.{events_of, iterations_among}
-use Rattle.nest_mean.specs.Nest.{Nest, CanRun}
+use Rattle.nest_mean.specs.Nest.{Nest, most_bodies}
 
--- The course of a nest has at most 2^60 iterations, whether they are reached or not. So no count of them overflows.
+-- The course of a nest with no more bodies than a program may have has at most 2^60 iterations, whether they are reached or
+-- not. So no count of them overflows.
 abbrev pub HasFewIterations : Type 0
-HasFewIterations = (nest : Nest) → CanRun nest → length (iterations_among (events_of nest.program nest.opening.words)) ≤ 2 ^ 60
+HasFewIterations = (nest : Nest) → length (bodies_of nest.program) ≤ most_bodies → length (iterations_among (events_of nest.program nest.opening.words)) ≤ 2 ^ 60

@@ -1,5 +1,5 @@
--- How the parts of a course are carried out, one inside the other: each is said before anything that may follow it, and
--- for any numbering of bodies in which its own stand in order.
+-- No caller of `run_plain` needs this. How the parts of a course are carried out, one inside the other: each is said
+-- before anything that may follow it, and for any numbering of bodies in which its own stand in order.
 use Rattle.std.specs.Prelude.{◌≡◌, ℕ, suc, ◌+◌, ◌*◌, ◌≤◌, ℤ, Bool, true, false, if◌then◌else◌, Result, Ok, Err, List, [], ◌∷◌, map, length}
 use Rattle.std.specs.List.{list_any}
 use Rattle.nest_syntax.specs.declared.operators.Cause.{Cause}
@@ -13,11 +13,12 @@ use Rattle.nest_syntax.specs.Words.{turns, counted, assigned, operation_of, vari
 use Rattle.nest_syntax.specs.Arrays.{Array, arrays_of, sizes_of}
 use Rattle.nest_syntax.specs.Value.{value, and_then, names_written, scalar_at, with_scalar}
 use Rattle.nest_syntax.specs.Course.{Setting, Course, Iterate, Item, Tested, in_order, chosen, iterations, region_turns, item_of}
-use Rattle.nest_syntax.specs.Outcome.{Ending, TrappedAt, place_of_trap, body_at, turn_in, ending_from}
+use Rattle.nest_syntax.specs.Outcome.{place_of_trap, body_at, turn_in}
 use Rattle.word_store.specs.Memory.{Memory}
 use Rattle.nest_mean.specs.declared.bodies.TurnTrap.{TurnTrap}
 use Rattle.nest_syntax.specs.declared.place.Place.{Place}
 use Rattle.nest_mean.specs.NamesChanged.{KeepsOthers}
+use Rattle.nest_mean.specs.Finish.{Finish, trapped_with, finish_from}
 
 -- the words on which an event evaluates these expressions: the words at that moment where one of them names a written
 -- array, and else the opening ones
@@ -60,16 +61,16 @@ abbrev pub Stand : List (List Stmt) → ℕ → List (List Stmt) → Type 0
 Stand bodies first [] = Unit {0}
 Stand bodies first (body ∷ others) = (body_at bodies first ≡ body) × Stand bodies (suc first) others
 
--- a run goes on, or ends at its trap
-abbrev pub Reaches : {A : Type 0} → Result A Place → (A → Ending) → Ending → Type 0
-Reaches (Ok result) next ending = ending ≡ next result
-Reaches (Err place) next ending = ending ≡ TrappedAt place
+-- a run goes on, or ends at its trap with these words
+abbrev pub Reaches : {A : Type 0} → Result A Place → List ℤ → (A → Finish) → Finish → Type 0
+Reaches (Ok result) words next finish = finish ≡ next result
+Reaches (Err place) words next finish = finish ≡ trapped_with place words
 
 -- An item was carried out: whatever follows goes on from the new scalars, the new number of iterations and the new
 -- words. There were at most so many iterations for each of its bodies.
 pub record Passes (arrays : List Array) (item : Item) (most : ℕ) (result : Result (Unit {0}) Place) (scalars : List ℤ) (number : ℕ) (memory : Memory) (scalars' : List ℤ) (number' : ℕ) (memory' : Memory) : Type 0 where
   pub same : (bodies : List (List Stmt)) (first : ℕ) → Stand bodies first item.bodies → (go : List ℤ → Course)
-      → Reaches result (λ done. ending_from (sizes_of arrays) (turn_in arrays bodies) (go scalars') number' memory'.words) (ending_from (sizes_of arrays) (turn_in arrays bodies) (item.events first scalars go) number memory.words)
+      → Reaches result memory'.words (λ done. finish_from (sizes_of arrays) (turn_in arrays bodies) (go scalars') number' memory'.words) (finish_from (sizes_of arrays) (turn_in arrays bodies) (item.events first scalars go) number memory.words)
   pub sizes : memory'.sizes ≡ memory.sizes
   pub few : number' ≤ number + most * length item.bodies
 
@@ -86,15 +87,15 @@ after_arms arms other first scalars go false = other.events (first + bodies_in a
 -- arms were gone through, and the items of the first whose test isn't 0 were carried out
 pub record PassesArms (arrays : List Array) (arms : List Tested) (most : ℕ) (taken : Result Bool Place) (scalars : List ℤ) (number : ℕ) (memory : Memory) (scalars' : List ℤ) (number' : ℕ) (memory' : Memory) : Type 0 where
   pub same : (bodies : List (List Stmt)) (first : ℕ) (other : Item) → Stand bodies first (chosen arms other).bodies → (go : List ℤ → Course)
-      → Reaches taken (λ was. ending_from (sizes_of arrays) (turn_in arrays bodies) (after_arms arms other first scalars' go was) number' memory'.words)
-      (ending_from (sizes_of arrays) (turn_in arrays bodies) ((chosen arms other).events first scalars go) number memory.words)
+      → Reaches taken memory'.words (λ was. finish_from (sizes_of arrays) (turn_in arrays bodies) (after_arms arms other first scalars' go was) number' memory'.words)
+      (finish_from (sizes_of arrays) (turn_in arrays bodies) ((chosen arms other).events first scalars go) number memory.words)
   pub sizes : memory'.sizes ≡ memory.sizes
   pub few : number' ≤ number + most * bodies_in arms
 
 -- an iteration of a body was carried out, and only scalars of these names have changed
 pub record Iterates (arrays : List Array) (body : List Stmt) (names : List ℕ) (result : Result (Unit {0}) Place) (scalars : List ℤ) (number : ℕ) (memory : Memory) (scalars' : List ℤ) (number' : ℕ) (memory' : Memory) : Type 0 where
   pub same : (bodies : List (List Stmt)) (at : ℕ) → body_at bodies at ≡ body → (rest : Course)
-      → Reaches result (λ done. ending_from (sizes_of arrays) (turn_in arrays bodies) rest number' memory'.words) (ending_from (sizes_of arrays) (turn_in arrays bodies) (Iterate at scalars rest) number memory.words)
+      → Reaches result memory'.words (λ done. finish_from (sizes_of arrays) (turn_in arrays bodies) rest number' memory'.words) (finish_from (sizes_of arrays) (turn_in arrays bodies) (Iterate at scalars rest) number memory.words)
   pub sizes : memory'.sizes ≡ memory.sizes
   pub few : number' ≤ number + 1
   pub kept : KeepsOthers names scalars scalars'
@@ -106,15 +107,15 @@ items_in setting stmts = in_order (map (item_of setting) stmts)
 -- all iterations of an invocation whose bounds are known were carried out, and the scalars are what they were
 pub record IteratesAll (arrays : List Array) (invoked : Loop) (low : ℤ) (count : ℕ) (result : Result (Unit {0}) Place) (scalars : List ℤ) (number : ℕ) (memory : Memory) (scalars' : List ℤ) (number' : ℕ) (memory' : Memory) : Type 0 where
   pub same : (bodies : List (List Stmt)) (at : ℕ) → body_at bodies at ≡ invoked.body → (go : List ℤ → Course)
-      → Reaches result (λ done. ending_from (sizes_of arrays) (turn_in arrays bodies) (go scalars') number' memory'.words)
-      (ending_from (sizes_of arrays) (turn_in arrays bodies) (iterations count 0 at (λ k. with_scalar scalars invoked.name (variable low invoked.step k)) scalars (go scalars)) number memory.words)
+      → Reaches result memory'.words (λ done. finish_from (sizes_of arrays) (turn_in arrays bodies) (go scalars') number' memory'.words)
+      (finish_from (sizes_of arrays) (turn_in arrays bodies) (iterations count 0 at (λ k. with_scalar scalars invoked.name (variable low invoked.step k)) scalars (go scalars)) number memory.words)
   pub sizes : memory'.sizes ≡ memory.sizes
   pub few : number' ≤ number + count
 
 -- all turns of a region whose bounds are known were carried out
 pub record PassesTurns (arrays : List Array) (items : Item) (region : Loop) (low : ℤ) (count : ℕ) (result : Result (Unit {0}) Place) (scalars : List ℤ) (number : ℕ) (memory : Memory) (scalars' : List ℤ) (number' : ℕ) (memory' : Memory) : Type 0 where
   pub same : (bodies : List (List Stmt)) (first : ℕ) → Stand bodies first items.bodies → (go : List ℤ → Course)
-      → Reaches result (λ done. ending_from (sizes_of arrays) (turn_in arrays bodies) (go scalars') number' memory'.words)
-      (ending_from (sizes_of arrays) (turn_in arrays bodies) (region_turns count 0 (variable low region.step) region.name (items.events first) scalars go) number memory.words)
+      → Reaches result memory'.words (λ done. finish_from (sizes_of arrays) (turn_in arrays bodies) (go scalars') number' memory'.words)
+      (finish_from (sizes_of arrays) (turn_in arrays bodies) (region_turns count 0 (variable low region.step) region.name (items.events first) scalars go) number memory.words)
   pub sizes : memory'.sizes ≡ memory.sizes
   pub few : number' ≤ number + count * (16777216 * length items.bodies)

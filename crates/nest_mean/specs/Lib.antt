@@ -4,6 +4,7 @@ pub mod TurnParts
 pub mod Nest
 pub mod Bound
 pub mod Outcomes
+pub mod Finish
 pub mod CourseParts
 pub mod Saved
 pub mod Numbered

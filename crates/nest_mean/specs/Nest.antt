@@ -1,9 +1,10 @@
 -- A nest: a program and its opening words.
-use Rattle.std.specs.Prelude.{◌≡◌, ℕ, ◌^◌, ◌<◌, ◌≤◌, length}
+use Rattle.std.specs.Prelude.{ℕ, ◌^◌, ◌<◌, ◌≤◌, length}
 use Rattle.nest_syntax.specs.declared.tree.Program.{Program}
-use Rattle.nest_syntax.specs.Arrays.{arrays_of, sizes_of}
 use Rattle.nest_syntax.specs.Course.{bodies_of}
-use Rattle.word_store.specs.Memory.{Memory}
+use Rattle.nest_syntax.specs.Named.{IsWellNamed}
+use Rattle.nest_check.specs.Kept.{KeepsRules}
+use Rattle.word_store.specs.Memory.{Memory, HasLayout}
 
 pub record Nest : Type 0 where
   pub program : Program
@@ -13,9 +14,15 @@ pub record Nest : Type 0 where
 abbrev pub most_bodies : ℕ
 most_bodies = 4096
 
--- What a run needs of a nest: the opening words are those of the declared arrays, and there aren't too many
--- declarations and bodies.
+-- A program as the check hands it out: it is well named and keeps the rules. A proof that needs the rules opens this by
+-- its name; else each search over a nest would read all fourteen.
+unfoldable pub IsWellFormed : Program → Type 0
+IsWellFormed program = IsWellNamed program × KeepsRules program
+
+-- What a run needs of a nest: the program is well formed, the opening words are those of its arrays, and there aren't too
+-- many declarations and bodies.
 pub record CanRun (nest : Nest) : Type 0 where
-  pub sizes : nest.opening.sizes ≡ sizes_of (arrays_of nest.program.decls)
+  pub formed : IsWellFormed nest.program
+  pub sizes : HasLayout nest.opening nest.program.decls
   pub few_decls : length nest.program.decls < 2 ^ 32
   pub few_bodies : length (bodies_of nest.program) ≤ most_bodies

@@ -1,4 +1,5 @@
--- The bodies of a program by their numbers. They depend neither on its arrays nor on its words.
+-- No caller of `run_plain` needs this. The bodies of a program by their numbers. They depend neither on its arrays nor
+-- on its words.
 use Rattle.std.specs.Prelude.{ℕ, zero, suc, Result, Ok, Err, List, [], ◌∷◌}
 use Rattle.std.specs.List.{flat_map}
 use Rattle.nest_syntax.specs.declared.tree.Arm.{Arm}

@@ -1,4 +1,4 @@
--- Scalars that are put aside and put back.
+-- No caller of `run_plain` needs this. Scalars that are put aside and put back.
 use Rattle.std.specs.Prelude.{◌≡◌, ℕ, ◌<◌, ℤ, true, List, [], ◌∷◌, length}
 use Rattle.nest_syntax.specs.Value.{scalar_at, with_scalar}
 use Rattle.nest_syntax.specs.Among.{is_among}

@@ -1,4 +1,5 @@
--- How the parts of a body run, one inside the other: each is said before anything that may follow it.
+-- No caller of `run_plain` needs this. How the parts of a body run, one inside the other: each is said before anything
+-- that may follow it.
 use Rattle.std.specs.Prelude.{◌≡◌, ℕ, ℤ, Bool, true, false, Result, Ok, Err, List}
 use Rattle.nest_syntax.specs.declared.names.Line.{Line}
 use Rattle.nest_syntax.specs.declared.operators.Cause.{Cause}

@@ -12,6 +12,7 @@ ghost use Rattle.nest_syntax.specs.Outcome.{body_at};
 ghost use Rattle.nest_syntax.proofs.Equations.{arm_effect};
 ghost use Rattle.nest_syntax.specs.Among.{is_among};
 ghost use Rattle.nest_syntax.specs.Locals.{locals_of};
+ghost use Rattle.word_store.specs.Memory.{HasLayout};
 ghost use Rattle.nest_mean.specs.NamesChanged.{names_changed, changed, changed_in_arm, changed_in_loop};
 ghost use Rattle.nest_mean.specs.TurnRun.{ended};
 ghost use Rattle.nest_mean.specs.TurnParts.{Runs, RunsArms, went_on_with, at_line, wrote};
@@ -32,8 +33,8 @@ pub struct TurnTrap {
 }
 
 /// Runs one iteration of the body with this number, which `has_body` has. Each local begins with 0, whatever its name's
-/// scalar has. At a trap the words stand as they were at that moment. The scalars of the locals stand changed, and so do
-/// those of other names that the body assigns, which no body of a checked program does; all others are kept.
+/// scalar has. At a trap the words stand as they were at that moment. The scalars of the locals stand changed; all others
+/// are kept, since the bodies of a checked program assign locals alone.
 pub fn run_turn(
     checked: &Checked,
     body: u32,
@@ -41,12 +42,12 @@ pub fn run_turn(
     words: &mut Words,
 ) -> Result<(), TurnTrap>
     requires there { body < length (bodies_of checked.now) }
-    requires sizes { words.old.sizes ≡ sizes_of (arrays_of checked.now.decls) }
+    requires sizes { HasLayout words.old checked.now.decls }
     ensures turn { on_words (sizes_of (arrays_of checked.now.decls)) (turn_of (arrays_of checked.now.decls) (body_at (bodies_of checked.now) body) scalars.old) words.old.words
         ≡ ended result words.new.words }
     ensures sizes { words.new.sizes ≡ words.old.sizes }
     ensures names { length scalars.new ≡ length scalars.old }
-    ensures others { (name : ℕ) → is_among (names_changed (body_at (bodies_of checked.now) body)) name ≡ false → scalar_at scalars.new name ≡ scalar_at scalars.old name }
+    ensures others { (name : ℕ) → is_among (locals_of (body_at (bodies_of checked.now) body)) name ≡ false → scalar_at scalars.new name ≡ scalar_at scalars.old name }
 {
     match body_in_regions(checked.program().regions.as_slice(), body) {
         Ok(stmts) => run_body(stmts, None, scalars, words, checked),
@@ -73,7 +74,7 @@ pub(crate) fn run_body(
     checked: &Checked,
 ) -> Result<(), TurnTrap>
     requires locals { IfSome locals (λ list. (name : ℕ) → is_among list.now name ≡ is_among (locals_of body.now) name) }
-    requires sizes { words.old.sizes ≡ sizes_of (arrays_of checked.now.decls) }
+    requires sizes { HasLayout words.old checked.now.decls }
     ensures turn { on_words (sizes_of (arrays_of checked.now.decls)) (turn_of (arrays_of checked.now.decls) body.now scalars.old) words.old.words
         ≡ ended result words.new.words }
     ensures sizes { words.new.sizes ≡ words.old.sizes }
@@ -91,7 +92,7 @@ fn run_block(
     words: &mut Words,
     checked: &Checked,
 ) -> Result<(), TurnTrap>
-    requires sizes { words.old.sizes ≡ sizes_of (arrays_of checked.now.decls) }
+    requires sizes { HasLayout words.old checked.now.decls }
     ensures { Runs (arrays_of checked.now.decls) (sequence (map (effect (arrays_of checked.now.decls)) stmts.now)) (names_changed stmts.now)
         result scalars.old words.old scalars.new words.new }
 {
@@ -108,7 +109,7 @@ fn run_stmt(
     words: &mut Words,
     checked: &Checked,
 ) -> Result<(), TurnTrap>
-    requires sizes { words.old.sizes ≡ sizes_of (arrays_of checked.now.decls) }
+    requires sizes { HasLayout words.old checked.now.decls }
     ensures { Runs (arrays_of checked.now.decls) (effect (arrays_of checked.now.decls) stmt.now) (changed stmt.now)
         result scalars.old words.old scalars.new words.new }
 {
@@ -151,7 +152,7 @@ fn run_arms(
     words: &mut Words,
     checked: &Checked,
 ) -> Result<bool, TurnTrap>
-    requires sizes { words.old.sizes ≡ sizes_of (arrays_of checked.now.decls) }
+    requires sizes { HasLayout words.old checked.now.decls }
     ensures { RunsArms (arrays_of checked.now.decls) (map (arm_effect (arrays_of checked.now.decls)) arms.now) (concat (map changed_in_arm arms.now))
         result scalars.old words.old scalars.new words.new }
 {
@@ -172,7 +173,7 @@ fn run_loop(
     words: &mut Words,
     checked: &Checked,
 ) -> Result<(), TurnTrap>
-    requires sizes { words.old.sizes ≡ sizes_of (arrays_of checked.now.decls) }
+    requires sizes { HasLayout words.old checked.now.decls }
     ensures { Runs (arrays_of checked.now.decls) (loop_effect (arrays_of checked.now.decls) inner.now) (changed_in_loop inner.now)
         result scalars.old words.old scalars.new words.new }
 {
@@ -197,7 +198,7 @@ fn run_turns(
     words: &mut Words,
     checked: &Checked,
 ) -> Result<(), TurnTrap>
-    requires sizes { words.old.sizes ≡ sizes_of (arrays_of checked.now.decls) }
+    requires sizes { HasLayout words.old checked.now.decls }
     requires reach { (k : ℕ) → k < count → FitsSigned w64 (variable low inner.now.step k) }
     ensures { Runs (arrays_of checked.now.decls)
         (repeat count 0 (variable low inner.now.step) inner.now.name (sequence (map (effect (arrays_of checked.now.decls)) inner.now.body)))
@@ -220,7 +221,7 @@ fn change_scalar(
     words: &Words,
     checked: &Checked,
 ) -> Result<(), TurnTrap>
-    requires sizes { words.now.sizes ≡ sizes_of (arrays_of checked.now.decls) }
+    requires sizes { HasLayout words.now checked.now.decls }
     ensures { Runs (arrays_of checked.now.decls) (effect_node (arrays_of checked.now.decls) (Stmt-F.Assign line name op value.now)) (name ∷ [])
         result scalars.old words.now scalars.new words.now }
 {
@@ -244,7 +245,7 @@ fn write_word(
     words: &mut Words,
     checked: &Checked,
 ) -> Result<(), TurnTrap>
-    requires sizes { words.old.sizes ≡ sizes_of (arrays_of checked.now.decls) }
+    requires sizes { HasLayout words.old checked.now.decls }
     ensures written { (rest : Turn) → on_words (sizes_of (arrays_of checked.now.decls))
         (inside line (located (arrays_of checked.now.decls) name at) (λ array n. writing line (operation_of op) array n right rest)) words.old.words
         ≡ went_on_with (sizes_of (arrays_of checked.now.decls)) result (λ done. rest) words.new.words }
@@ -265,7 +266,7 @@ fn change_word(
     words: &mut Words,
     checked: &Checked,
 ) -> Result<(), Cause>
-    requires sizes { words.old.sizes ≡ sizes_of (arrays_of checked.now.decls) }
+    requires sizes { HasLayout words.old checked.now.decls }
     ensures written { (line : Line) (rest : Turn) → on_words (sizes_of (arrays_of checked.now.decls))
         (inside line (located (arrays_of checked.now.decls) name at) (λ array n. writing line (operation_of op) array n right rest)) words.old.words
         ≡ wrote (sizes_of (arrays_of checked.now.decls)) line result rest words.new.words }
@@ -286,7 +287,7 @@ fn value_of(
     words: &Words,
     checked: &Checked,
 ) -> Result<i64, TurnTrap>
-    requires sizes { words.now.sizes ≡ sizes_of (arrays_of checked.now.decls) }
+    requires sizes { HasLayout words.now checked.now.decls }
     ensures { result ≡ at_line line (value (arrays_of checked.now.decls) scalars.now words.now.words expr.now) }
 {
     match eval(expr, scalars, words, checked) {

@@ -1,9 +1,10 @@
 ghost use Rattle.std.specs.Prelude.{◌≡◌, true, ◌+◌, ◌*◌, ◌<◌, ◌≤◌, ◌^◌, ℕ, map, length, FitsSigned};
 ghost use Rattle.std.specs.Int.{w64};
 ghost use Rattle.nest_syntax.specs.Words.{variable};
-ghost use Rattle.nest_syntax.specs.Arrays.{arrays_of, sizes_of};
+ghost use Rattle.nest_syntax.specs.Arrays.{arrays_of};
 ghost use Rattle.nest_syntax.specs.Course.{item_of, looped_of, region_of, tested_of};
 ghost use Rattle.nest_syntax.specs.Outcome.{place_of_trap};
+ghost use Rattle.word_store.specs.Memory.{HasLayout};
 ghost use Rattle.nest_mean.specs.CourseParts.{Passes, PassesArms, PassesTurns, items_in, setting_on, bodies_in, at_scheduler};
 
 use crate::events::{change_scheduled, scheduled, scheduled_header};
@@ -23,8 +24,8 @@ pub(crate) fn run_region(
     opening: &Words,
     checked: &Checked,
 ) -> Result<(), Place>
-    requires sizes { words.old.sizes ≡ sizes_of (arrays_of checked.now.decls) }
-    requires opening { opening.now.sizes ≡ sizes_of (arrays_of checked.now.decls) }
+    requires sizes { HasLayout words.old checked.now.decls }
+    requires opening { HasLayout opening.now checked.now.decls }
     requires room { number.old + 281474976710656 * length (region_of (setting_on checked.now.decls opening.now.words) region.now).bodies < 2 ^ 64 }
     ensures { Passes (arrays_of checked.now.decls) (region_of (setting_on checked.now.decls opening.now.words) region.now) 281474976710656
         result scalars.old number.old words.old scalars.new number.new words.new }
@@ -47,8 +48,8 @@ fn run_region_turns(
     opening: &Words,
     checked: &Checked,
 ) -> Result<(), Place>
-    requires sizes { words.old.sizes ≡ sizes_of (arrays_of checked.now.decls) }
-    requires opening { opening.now.sizes ≡ sizes_of (arrays_of checked.now.decls) }
+    requires sizes { HasLayout words.old checked.now.decls }
+    requires opening { HasLayout opening.now checked.now.decls }
     requires reach { (k : ℕ) → k < count → FitsSigned w64 (variable low region.now.step k) }
     requires count { count ≤ 16777216 }
     requires room { number.old + count * (16777216 * length (items_in (setting_on checked.now.decls opening.now.words) region.now.body).bodies) < 2 ^ 64 }
@@ -78,8 +79,8 @@ fn run_items(
     opening: &Words,
     checked: &Checked,
 ) -> Result<(), Place>
-    requires sizes { words.old.sizes ≡ sizes_of (arrays_of checked.now.decls) }
-    requires opening { opening.now.sizes ≡ sizes_of (arrays_of checked.now.decls) }
+    requires sizes { HasLayout words.old checked.now.decls }
+    requires opening { HasLayout opening.now checked.now.decls }
     requires room { number.old + 16777216 * length (items_in (setting_on checked.now.decls opening.now.words) items.now).bodies < 2 ^ 64 }
     ensures { Passes (arrays_of checked.now.decls) (items_in (setting_on checked.now.decls opening.now.words) items.now) 16777216
         result scalars.old number.old words.old scalars.new number.new words.new }
@@ -99,8 +100,8 @@ fn run_item(
     opening: &Words,
     checked: &Checked,
 ) -> Result<(), Place>
-    requires sizes { words.old.sizes ≡ sizes_of (arrays_of checked.now.decls) }
-    requires opening { opening.now.sizes ≡ sizes_of (arrays_of checked.now.decls) }
+    requires sizes { HasLayout words.old checked.now.decls }
+    requires opening { HasLayout opening.now checked.now.decls }
     requires room { number.old + 16777216 * length (item_of (setting_on checked.now.decls opening.now.words) item.now).bodies < 2 ^ 64 }
     ensures { Passes (arrays_of checked.now.decls) (item_of (setting_on checked.now.decls opening.now.words) item.now) 16777216
         result scalars.old number.old words.old scalars.new number.new words.new }
@@ -140,8 +141,8 @@ fn run_item_arms(
     opening: &Words,
     checked: &Checked,
 ) -> Result<bool, Place>
-    requires sizes { words.old.sizes ≡ sizes_of (arrays_of checked.now.decls) }
-    requires opening { opening.now.sizes ≡ sizes_of (arrays_of checked.now.decls) }
+    requires sizes { HasLayout words.old checked.now.decls }
+    requires opening { HasLayout opening.now checked.now.decls }
     requires room { number.old + 16777216 * bodies_in (map (tested_of (setting_on checked.now.decls opening.now.words)) arms.now) < 2 ^ 64 }
     ensures { PassesArms (arrays_of checked.now.decls) (map (tested_of (setting_on checked.now.decls opening.now.words)) arms.now) 16777216
         result scalars.old number.old words.old scalars.new number.new words.new }
@@ -175,8 +176,8 @@ fn run_invocation(
     opening: &Words,
     checked: &Checked,
 ) -> Result<(), Place>
-    requires sizes { words.old.sizes ≡ sizes_of (arrays_of checked.now.decls) }
-    requires opening { opening.now.sizes ≡ sizes_of (arrays_of checked.now.decls) }
+    requires sizes { HasLayout words.old checked.now.decls }
+    requires opening { HasLayout opening.now checked.now.decls }
     requires room { number.old + 16777216 < 2 ^ 64 }
     ensures { Passes (arrays_of checked.now.decls) (looped_of (setting_on checked.now.decls opening.now.words) invoked.now).invocation 16777216
         result scalars.old number.old words.old scalars.new number.new words.new }

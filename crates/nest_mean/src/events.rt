@@ -1,9 +1,10 @@
-ghost use Rattle.std.specs.Prelude.{◌≡◌, ◌<◌, ◌≤◌, ℕ, [], ◌∷◌, length, IfOk, FitsSigned};
+ghost use Rattle.std.specs.Prelude.{◌≡◌, ◌<◌, ◌≤◌, ℕ, [], ◌∷◌, IfOk, FitsSigned};
 ghost use Rattle.std.specs.List.{list_any};
 ghost use Rattle.std.specs.Int.{w64};
 ghost use Rattle.nest_syntax.specs.Words.{variable};
-ghost use Rattle.nest_syntax.specs.Arrays.{arrays_of, sizes_of};
+ghost use Rattle.nest_syntax.specs.Arrays.{arrays_of};
 ghost use Rattle.nest_syntax.specs.Value.{value, names_written, is_written};
+ghost use Rattle.word_store.specs.Memory.{HasLayout};
 ghost use Rattle.nest_mean.specs.CourseParts.{event_words, header, with_result, scalars_changed};
 
 use crate::bodies::turns_of;
@@ -23,8 +24,8 @@ pub(crate) fn scheduled(
     opening: &Words,
     checked: &Checked,
 ) -> Result<i64, Cause>
-    requires sizes { words.now.sizes ≡ sizes_of (arrays_of checked.now.decls) }
-    requires opening { opening.now.sizes ≡ sizes_of (arrays_of checked.now.decls) }
+    requires sizes { HasLayout words.now checked.now.decls }
+    requires opening { HasLayout opening.now checked.now.decls }
     ensures { result ≡ value (arrays_of checked.now.decls) scalars.now
         (event_words (arrays_of checked.now.decls) (expr.now ∷ []) words.now.words opening.now.words) expr.now }
 {
@@ -43,8 +44,8 @@ pub(crate) fn scheduled_header(
     opening: &Words,
     checked: &Checked,
 ) -> Result<(i64, u64), Cause>
-    requires sizes { words.now.sizes ≡ sizes_of (arrays_of checked.now.decls) }
-    requires opening { opening.now.sizes ≡ sizes_of (arrays_of checked.now.decls) }
+    requires sizes { HasLayout words.now checked.now.decls }
+    requires opening { HasLayout opening.now checked.now.decls }
     ensures value { result ≡ header (arrays_of checked.now.decls) headed.now scalars.now
         (event_words (arrays_of checked.now.decls) (headed.now.low ∷ headed.now.high ∷ []) words.now.words opening.now.words) }
     ensures reach { IfOk result (λ b. (k : ℕ) → k < b.1 → FitsSigned w64 (variable b.0 headed.now.step k)) }
@@ -71,7 +72,7 @@ fn header_on(
     words: &Words,
     checked: &Checked,
 ) -> Result<(i64, u64), Cause>
-    requires sizes { words.now.sizes ≡ sizes_of (arrays_of checked.now.decls) }
+    requires sizes { HasLayout words.now checked.now.decls }
     ensures value { result ≡ header (arrays_of checked.now.decls) headed.now scalars.now words.now.words }
     ensures reach { IfOk result (λ b. (k : ℕ) → k < b.1 → FitsSigned w64 (variable b.0 headed.now.step k)) }
     ensures count { IfOk result (λ b. b.1 ≤ 16777216) }
@@ -92,8 +93,8 @@ pub(crate) fn change_scheduled(
     opening: &Words,
     checked: &Checked,
 ) -> Result<(), Cause>
-    requires sizes { words.now.sizes ≡ sizes_of (arrays_of checked.now.decls) }
-    requires opening { opening.now.sizes ≡ sizes_of (arrays_of checked.now.decls) }
+    requires sizes { HasLayout words.now checked.now.decls }
+    requires opening { HasLayout opening.now checked.now.decls }
     ensures { with_result result scalars.new ≡ scalars_changed (arrays_of checked.now.decls) name op value.now scalars.old
         (event_words (arrays_of checked.now.decls) (value.now ∷ []) words.now.words opening.now.words) }
 {

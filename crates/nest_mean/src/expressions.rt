@@ -1,7 +1,8 @@
 ghost use Rattle.std.specs.Prelude.{◌≡◌, ◌<◌, IfSome, length};
 ghost use Rattle.nest_syntax.specs.Words.{truth, is_zero};
-ghost use Rattle.nest_syntax.specs.Arrays.{arrays_of, sizes_of, array_of};
-ghost use Rattle.nest_syntax.specs.Value.{value, read, and_then};
+ghost use Rattle.nest_syntax.specs.Arrays.{arrays_of, array_of};
+ghost use Rattle.nest_syntax.specs.Value.{value, read};
+ghost use Rattle.word_store.specs.Memory.{HasLayout};
 
 use crate::values::Scalars;
 use nest_check::Checked;
@@ -10,7 +11,7 @@ use word_store::{Words, apply, apply_un};
 
 /// The value of an expression, from the scalars and the words of the declared arrays, or the cause of its trap.
 pub fn eval(expr: &Expr, scalars: &Scalars, words: &Words, checked: &Checked) -> Result<i64, Cause>
-    requires sizes { words.now.sizes ≡ sizes_of (arrays_of checked.now.decls) }
+    requires sizes { HasLayout words.now checked.now.decls }
     ensures { result ≡ value (arrays_of checked.now.decls) scalars.now words.now.words expr.now }
 {
     match expr {
@@ -42,7 +43,7 @@ pub fn eval(expr: &Expr, scalars: &Scalars, words: &Words, checked: &Checked) ->
 
 // The word at a subscript of the array with this name.
 fn read(name: u32, at: i64, words: &Words, checked: &Checked) -> Result<i64, Cause>
-    requires sizes { words.now.sizes ≡ sizes_of (arrays_of checked.now.decls) }
+    requires sizes { HasLayout words.now checked.now.decls }
     ensures { result ≡ read (arrays_of checked.now.decls) words.now.words name at }
 {
     let array = array_of(name, checked).ok_or(Cause::Index)?;

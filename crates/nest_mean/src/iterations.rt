@@ -1,9 +1,10 @@
-ghost use Rattle.std.specs.Prelude.{◌≡◌, ◌+◌, ◌<◌, ◌≤◌, ◌^◌, ℕ, [], ◌∷◌, length, FitsSigned, IfSome};
+ghost use Rattle.std.specs.Prelude.{◌≡◌, ◌+◌, ◌<◌, ◌^◌, ℕ, [], ◌∷◌, length, FitsSigned, IfSome};
 ghost use Rattle.std.specs.Int.{w64};
 ghost use Rattle.nest_syntax.specs.Words.{variable};
-ghost use Rattle.nest_syntax.specs.Arrays.{arrays_of, sizes_of};
+ghost use Rattle.nest_syntax.specs.Arrays.{arrays_of};
 ghost use Rattle.nest_syntax.specs.Among.{is_among};
 ghost use Rattle.nest_syntax.specs.Locals.{locals_of};
+ghost use Rattle.word_store.specs.Memory.{HasLayout};
 ghost use Rattle.nest_mean.specs.NamesChanged.{names_changed, changed_in_loop};
 ghost use Rattle.nest_mean.specs.Saved.{AreSaved};
 ghost use Rattle.nest_mean.specs.CourseParts.{Iterates, IteratesAll, at_iteration, next_number};
@@ -28,7 +29,7 @@ pub(crate) fn run_iterations(
     words: &mut Words,
     checked: &Checked,
 ) -> Result<(), Place>
-    requires sizes { words.old.sizes ≡ sizes_of (arrays_of checked.now.decls) }
+    requires sizes { HasLayout words.old checked.now.decls }
     requires reach { (k : ℕ) → k < count → FitsSigned w64 (variable low invoked.now.step k) }
     requires room { number.old + count < 2 ^ 64 }
     ensures { IteratesAll (arrays_of checked.now.decls) invoked.now low count result scalars.old number.old words.old scalars.new number.new words.new }
@@ -71,7 +72,7 @@ fn iterate(
     words: &mut Words,
     checked: &Checked,
 ) -> Result<(), Place>
-    requires sizes { words.old.sizes ≡ sizes_of (arrays_of checked.now.decls) }
+    requires sizes { HasLayout words.old checked.now.decls }
     requires names { IfSome names (λ list. (name : ℕ) → is_among list.now name ≡ is_among (changed_in_loop invoked.now) name) }
     requires locals { IfSome locals (λ list. (name : ℕ) → is_among list.now name ≡ is_among (locals_of invoked.now.body) name) }
     requires saved { AreSaved (changed_in_loop invoked.now) scalars.old saved.now }
@@ -103,7 +104,7 @@ fn run_iteration(
     words: &mut Words,
     checked: &Checked,
 ) -> Result<(), Place>
-    requires sizes { words.old.sizes ≡ sizes_of (arrays_of checked.now.decls) }
+    requires sizes { HasLayout words.old checked.now.decls }
     requires locals { IfSome locals (λ list. (name : ℕ) → is_among list.now name ≡ is_among (locals_of body.now) name) }
     requires room { number.old + 1 < 2 ^ 64 }
     ensures { Iterates (arrays_of checked.now.decls) body.now (names_changed body.now) result scalars.old number.old words.old scalars.new number.new words.new }
@@ -120,7 +121,7 @@ pub(crate) fn run_write(
     words: &mut Words,
     checked: &Checked,
 ) -> Result<(), Place>
-    requires sizes { words.old.sizes ≡ sizes_of (arrays_of checked.now.decls) }
+    requires sizes { HasLayout words.old checked.now.decls }
     requires room { number.old + 1 < 2 ^ 64 }
     ensures { Iterates (arrays_of checked.now.decls) (stmt.now ∷ []) (names_changed (stmt.now ∷ [])) result scalars.old number.old words.old scalars.new number.new words.new }
 {

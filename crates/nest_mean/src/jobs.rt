@@ -1,5 +1,5 @@
 ghost use Rattle.std.specs.Prelude.{◌≡◌, IfOk};
-ghost use Rattle.nest_syntax.specs.Arrays.{arrays_of, sizes_of};
+ghost use Rattle.word_store.specs.Memory.{HasLayout};
 ghost use Rattle.nest_mean.specs.Nest.{CanRun};
 
 use nest_check::Checked;
@@ -33,10 +33,10 @@ impl Model for Job {
 impl Job {
     /// A job of a program and the words of its arrays, which have its layout.
     pub fn new(checked: Checked, words: Words) -> Job
-        requires { words.sizes ≡ sizes_of (arrays_of checked.decls) }
+        requires { HasLayout words checked.decls }
         ensures { result ≡ record { program = checked; opening = words } }
     {
-        // It tells what the invariant needs: there are few declarations and bodies.
+        // It tells what the invariant needs: the program keeps the rules, and has few declarations and bodies.
         let _program = checked.program();
         Job { checked, words }
     }

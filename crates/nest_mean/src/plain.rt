@@ -1,6 +1,7 @@
 ghost use Rattle.std.specs.Prelude.{◌≡◌, ◌+◌, ◌*◌, ◌<◌, ◌^◌, IfOk, map, length};
-ghost use Rattle.nest_syntax.specs.Arrays.{arrays_of, sizes_of};
+ghost use Rattle.nest_syntax.specs.Arrays.{arrays_of};
 ghost use Rattle.nest_syntax.specs.Course.{in_order, region_of};
+ghost use Rattle.word_store.specs.Memory.{HasLayout};
 ghost use Rattle.nest_mean.specs.CourseParts.{Passes, setting_on};
 ghost use Rattle.nest_mean.specs.Outcomes.{outcome};
 
@@ -43,8 +44,8 @@ fn run_regions(
     opening: &Words,
     checked: &Checked,
 ) -> Result<(), Place>
-    requires sizes { words.old.sizes ≡ sizes_of (arrays_of checked.now.decls) }
-    requires opening { opening.now.sizes ≡ sizes_of (arrays_of checked.now.decls) }
+    requires sizes { HasLayout words.old checked.now.decls }
+    requires opening { HasLayout opening.now checked.now.decls }
     requires room { number.old + 281474976710656 * length (in_order (map (region_of (setting_on checked.now.decls opening.now.words)) regions.now)).bodies < 2 ^ 64 }
     ensures { Passes (arrays_of checked.now.decls) (in_order (map (region_of (setting_on checked.now.decls opening.now.words)) regions.now)) 281474976710656
         result scalars.old number.old words.old scalars.new number.new words.new }

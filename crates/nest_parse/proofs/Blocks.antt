@@ -1,5 +1,6 @@
 -- Reading statements, loops and declarations.
 use Rattle.std.proofs.Common.{◌≡◌, ℕ, ◌<◌, Bool, true, false, pos, neg_ℤ, Option, Some, None, Result, Ok, Err, IsErrAnd, List, [], ◌∷◌, ◌++◌, length, refl, sym, ◌∙◌, ap, subst, arith, append_assoc}
+use Rattle.std.proofs.lemmas.List.{append-nil}
 use Rattle.nest_syntax.specs.declared.names.Line.{Line}
 use Rattle.nest_syntax.specs.declared.operators.Op.{Op}
 use Rattle.nest_syntax.specs.declared.tree.Expr.{Expr}
@@ -17,12 +18,12 @@ use Rattle.nest_lex.specs.declared.token.Kind.TheVariants as kind
 use Rattle.nest_lex.specs.declared.token.Token.{Token}
 use Rattle.nest_parse.specs.declared.refused.Stop.{Stop}
 use Rattle.nest_parse.specs.Grammar.{token, sign, keyword, named, numeral, line, IsExpr, IsLevel, IsStep, behind, before, by, IsStatement, declares, assigns, writes, chooses, IsArm, an_arm, IsElses, no_else, else_if, last_else, IsLoop, a_loop, IsStatements, IsSigned, positive, negative, IsDecl, an_array, a_fixed_array, a_scalar, AreDecls, AreLoops}
-use Rattle.nest_parse.specs.Machine.{line_of, Item, This, Word, ThisName, AnyName, AnyNumber, Subscript, Assigns, Compare, Statements, Elses, BehindElse, LoopName, Step, StepTail, Decls, DeclTail, Signed, Loops, level_then, value_then, block_then, arm_then, header_then, initial_then, assigned_then, test_then, length_then, takes, skips, or_skip, step, stuck, Reads, ReadsNext, ReadsVariable, ReadsProgram, IsSign, IsWord, IsTheName, IsName, IsNumber, IsAssignment, IsComparison, IsExprThen, IsInitial, IsAssigned, IsBlock, IsBehind, IsArmAt, IsTest, IsBehindVariable, IsLength, IsBehindDeclared, IsScalar, TakesNone, is_name, is_mark, is_keyword}
+use Rattle.nest_parse.specs.Expected.{line_of, Expected, This, Word, ThisName, AnyName, AnyNumber, Subscript, Assigns, Compare, Statements, Elses, BehindElse, LoopName, Step, StepTail, Decls, DeclTail, Signed, Loops, level_then, value_then, block_then, arm_then, header_then, initial_then, assigned_then, test_then, length_then, takes, skips, or_skip, step, stuck, Reads, ReadsNext, ReadsVariable, ReadsProgram, IsSign, IsWord, IsTheName, IsName, IsNumber, IsAssignment, IsComparison, IsExprThen, IsInitial, IsAssigned, IsBlock, IsBehind, IsArmAt, IsTest, IsBehindVariable, IsLength, IsBehindDeclared, IsScalar, TakesNone, is_name, is_mark, is_keyword}
 use Rattle.nest_parse.proofs.Complete.{skipped}
 use Rattle.nest_parse.proofs.Values.{left_there, no_place, place_opens}
 
 pub initial_read : {old m new : List Token} → IsSign mark.Assign old tt m → (result : Result Expr Stop)
-    → ((k : List Item) → stuck (This mark.Assign ∷ k) old ≡ stuck k m) → Reads (IsExprThen mark.Semicolon) (λ k. value_then (This mark.Semicolon ∷ k)) m new result
+    → ((k : List Expected) → stuck (This mark.Assign ∷ k) old ≡ stuck k m) → Reads (IsExprThen mark.Semicolon) (λ k. value_then (This mark.Semicolon ∷ k)) m new result
     → Reads IsInitial initial_then old new result
 initial_read {m = m} h (Ok e) g r = record { is = (h.0, m, r.is.0, h.1, r.is.1); goes = λ k. g (value_then (This mark.Semicolon ∷ k)) ∙ r.goes k; sticks = tt }
 initial_read h (Err e) g r = record { is = tt; goes = tt; sticks = λ q k. g (value_then (This mark.Semicolon ∷ k)) ∙ r.sticks q k }
@@ -45,7 +46,7 @@ test_read {old} {a} {b} {c} {new} {n} {through} {high} f g h s = record {
 }
 
 -- the step of a loop
-pub before_opens : {old m : List Token} (n : ℕ) → IsSign mark.Increment old tt m → (k : List Item) → stuck (Step n ∷ k) old ≡ stuck (ThisName n ∷ k) m
+pub before_opens : {old m : List Token} (n : ℕ) → IsSign mark.Increment old tt m → (k : List Expected) → stuck (Step n ∷ k) old ≡ stuck (ThisName n ∷ k) m
 before_opens n h k = ap (stuck (Step n ∷ k)) h.1
 
 pub before_read : {old m new : List Token} {n : ℕ} → IsSign mark.Increment old tt m → Reads (IsTheName n) (λ k. ThisName n ∷ k) m new (Ok tt) → Reads (IsStep n) (λ k. Step n ∷ k) old new (Ok 1)
@@ -55,23 +56,23 @@ before_read {old} {m} {new} {n} h r = record {
   sticks = tt;
 }
 
-step_takes : (t : Kind) (n : ℕ) (k : List Item) → is_mark mark.Increment t ≡ false → takes (Step n) t k ≡ takes (ThisName n) t (StepTail ∷ k)
+step_takes : (t : Kind) (n : ℕ) (k : List Expected) → is_mark mark.Increment t ≡ false → takes (Step n) t k ≡ takes (ThisName n) t (StepTail ∷ k)
 step_takes (kind.Mark mark.Increment) n k q = cc
 step_takes (kind.Name t) n k q = refl
 step_takes (kind.Number t) n k q = refl
 step_takes (kind.Keyword t) n k q = refl
 step_takes (kind.Mark m) n k q = refl
 
-no_skip : (o a b : Option (List Item)) → or_skip o false a ≡ or_skip o false b
+no_skip : (o a b : Option (List Expected)) → or_skip o false a ≡ or_skip o false b
 no_skip None a b = refl
 no_skip (Some s) a b = refl
 
-same_stuck : (x y : Item) (k l : List Item) (ts : List Token) → skips x ≡ false → skips y ≡ false → ((t : Token) (r : List Token) → ts ≡ t ∷ r → takes x t.kind k ≡ takes y t.kind l)
+same_stuck : (x y : Expected) (k l : List Expected) (ts : List Token) → skips x ≡ false → skips y ≡ false → ((t : Token) (r : List Token) → ts ≡ t ∷ r → takes x t.kind k ≡ takes y t.kind l)
     → stuck (x ∷ k) ts ≡ stuck (y ∷ l) ts
 same_stuck x y k l [] s s' h = rw (s, s', stuck) refl
 same_stuck x y k l (t ∷ ts) s s' h = rw (h t ts refl, s, s', no_skip (takes y t.kind l) (step t.kind k) (step t.kind l), stuck) refl
 
-pub name_opens : {old m : List Token} (n : ℕ) → TakesNone (is_mark mark.Increment) old m → (k : List Item) → stuck (Step n ∷ k) old ≡ stuck (ThisName n ∷ StepTail ∷ k) m
+pub name_opens : {old m : List Token} (n : ℕ) → TakesNone (is_mark mark.Increment) old m → (k : List Expected) → stuck (Step n ∷ k) old ≡ stuck (ThisName n ∷ StepTail ∷ k) m
 name_opens {old} {m} n h k =
     same_stuck (Step n) (ThisName n) k (StepTail ∷ k) old refl refl (λ t r o. step_takes t.kind n k (h.other t r o)) ∙ ap (stuck (ThisName n ∷ StepTail ∷ k)) (sym h.stays)
 
@@ -85,12 +86,12 @@ behind_read {old} {m} {a} {new} {n} h r i =
       sticks = tt;
     }
 
-tail_takes : (t : Kind) (k : List Item) → is_mark mark.Increment t ≡ false → takes StepTail t k ≡ takes (This mark.PlusAssign) t (AnyNumber ∷ k)
+tail_takes : (t : Kind) (k : List Expected) → is_mark mark.Increment t ≡ false → takes StepTail t k ≡ takes (This mark.PlusAssign) t (AnyNumber ∷ k)
 tail_takes (kind.Mark mark.Increment) k q = cc
 tail_takes _ k q = refl
 
 pub sum_opens : {old m a b : List Token} {n : ℕ} → TakesNone (is_mark mark.Increment) old m → Reads (IsTheName n) (λ k. ThisName n ∷ k) m a (Ok tt) → TakesNone (is_mark mark.Increment) a b
-    → (k : List Item) → stuck (Step n ∷ k) old ≡ stuck (This mark.PlusAssign ∷ AnyNumber ∷ k) b
+    → (k : List Expected) → stuck (Step n ∷ k) old ≡ stuck (This mark.PlusAssign ∷ AnyNumber ∷ k) b
 sum_opens {a = a} {n = n} h r i k =
     name_opens n h k ∙ (r.goes (StepTail ∷ k)
     ∙ (same_stuck StepTail (This mark.PlusAssign) k (AnyNumber ∷ k) a refl refl (λ t q o. tail_takes t.kind k (i.other t q o)) ∙ ap (stuck (This mark.PlusAssign ∷ AnyNumber ∷ k)) (sym i.stays)))
@@ -168,7 +169,7 @@ arm_read {old} {m} {a} {new} {e} {body} {on} f p b = record {
 pub record Armed (on : Line) (old now : List Token) (arms : List Arm) : Type 0 where
   pub is : (s : Spot) → on ≡ line s → (more : List Arm) (other : List Stmt) (r : List Token) → IsElses now more other r
       → IsStatement (keyword word.If s ∷ old) (stmt.If (arms ++ more) other) r
-  pub goes : (k : List Item) → stuck (arm_then (Elses ∷ k)) old ≡ stuck (Elses ∷ k) now
+  pub goes : (k : List Expected) → stuck (arm_then (Elses ∷ k)) old ≡ stuck (Elses ∷ k) now
   pub shorter : length now < length old
 
 pub armed : {on : Line} {old now : List Token} {first : Arm} {none arms : List Arm} → Reads (IsArmAt on) arm_then old now (Ok first) → length now < length old → none ≡ [] → arms ≡ none ++ first ∷ []
@@ -180,7 +181,7 @@ armed {on} {old} {now} {first} {none} {arms} r s z e = record {
 }
 
 pub else_if_opens : {on : Line} {old now a b : List Token} {arms : List Arm} → Armed on old now arms → IsWord word.Else now tt a → IsWord word.If a tt b
-    → (k : List Item) → stuck (arm_then (Elses ∷ k)) old ≡ stuck (arm_then (Elses ∷ k)) b
+    → (k : List Expected) → stuck (arm_then (Elses ∷ k)) old ≡ stuck (arm_then (Elses ∷ k)) b
 else_if_opens j e i k = j.goes k ∙ (ap (stuck (Elses ∷ k)) e.1 ∙ ap (stuck (BehindElse ∷ k)) i.1)
 
 on_line : {old m : List Token} {on : Line} {t : Kind} {s : Spot} → old ≡ token t s ∷ m → on ≡ line_of old → on ≡ line s
@@ -196,39 +197,35 @@ armed_on {on} {here} {old} {now} {a} {b} {new} {arms} {arms'} {x} j e h i r s g 
   shorter = omega (arith, j.shorter);
 }
 
-else_takes : (t : Kind) (k : List Item) → is_keyword word.If t ≡ false → takes BehindElse t k ≡ takes (This mark.OpenCurly) t (Statements ∷ This mark.CloseCurly ∷ k)
+else_takes : (t : Kind) (k : List Expected) → is_keyword word.If t ≡ false → takes BehindElse t k ≡ takes (This mark.OpenCurly) t (Statements ∷ This mark.CloseCurly ∷ k)
 else_takes (kind.Keyword word.If) k q = cc
 else_takes (kind.Mark mark.OpenCurly) k q = refl
 else_takes _ k q = refl
 
 pub else_opens : {on : Line} {old now a b : List Token} {arms : List Arm} → Armed on old now arms → IsWord word.Else now tt a → TakesNone (is_keyword word.If) a b
-    → (k : List Item) → stuck (arm_then (Elses ∷ k)) old ≡ stuck (block_then k) b
+    → (k : List Expected) → stuck (arm_then (Elses ∷ k)) old ≡ stuck (block_then k) b
 else_opens {a = a} j e i k =
     j.goes k ∙ (ap (stuck (Elses ∷ k)) e.1
     ∙ (same_stuck BehindElse (This mark.OpenCurly) k (Statements ∷ This mark.CloseCurly ∷ k) a refl refl (λ t r o. else_takes t.kind k (i.other t r o)) ∙ ap (stuck (block_then k)) (sym i.stays)))
-
-append_none : {X : Type 0} (xs : List X) → xs ++ [] ≡ xs
-append_none [] = refl
-append_none (x ∷ xs) = ap (λ ys. x ∷ ys) (append_none xs)
 
 pub else_read : {on : Line} {old now a b new : List Token} {arms : List Arm} {other : List Stmt} → Armed on old now arms → IsWord word.Else now tt a → TakesNone (is_keyword word.If) a b
     → Reads IsBlock block_then b new (Ok other) → Reads (IsBehind (keyword word.If) IsStatement on) (λ k. arm_then (Elses ∷ k)) old new (Ok (stmt.If arms other))
 else_read {on} {old} {now} {a} {b} {new} {arms} {other} j e i r = record {
   is = λ s h.
       let last : IsElses now [] other new = subst (λ ts. IsElses ts [] other new) (sym (e.1 ∙ ap (λ ts. keyword word.Else e.0 ∷ ts) (sym i.stays ∙ r.is.at))) (last_else r.is.body_is) in
-      subst (λ xs. IsStatement (keyword word.If s ∷ old) (stmt.If xs other) new) (append_none arms) (j.is s h [] other new last);
+      subst (λ xs. IsStatement (keyword word.If s ∷ old) (stmt.If xs other) new) (append-nil arms) (j.is s h [] other new last);
   goes = λ k. else_opens j e i k ∙ r.goes k;
   sticks = tt;
 }
 
-no_else_takes : (t : Kind) (k : List Item) → is_keyword word.Else t ≡ false → takes Elses t k ≡ None
+no_else_takes : (t : Kind) (k : List Expected) → is_keyword word.Else t ≡ false → takes Elses t k ≡ None
 no_else_takes (kind.Keyword word.Else) k q = cc
 no_else_takes _ k q = refl
 
 pub branch_read : {on : Line} {old now new : List Token} {arms : List Arm} → Armed on old now arms → TakesNone (is_keyword word.Else) now new
     → Reads (IsBehind (keyword word.If) IsStatement on) (λ k. arm_then (Elses ∷ k)) old new (Ok (stmt.If arms []))
 branch_read {on} {old} {now} {new} {arms} j i = record {
-  is = λ s h. subst (λ xs. IsStatement (keyword word.If s ∷ old) (stmt.If xs []) new) (append_none arms) (j.is s h [] [] new (subst (λ ts. IsElses ts [] [] new) i.stays no_else));
+  is = λ s h. subst (λ xs. IsStatement (keyword word.If s ∷ old) (stmt.If xs []) new) (append-nil arms) (j.is s h [] [] new (subst (λ ts. IsElses ts [] [] new) i.stays no_else));
   goes = λ k. j.goes k ∙ left_there Elses refl no_else_takes i k;
   sticks = tt;
 }
@@ -264,8 +261,8 @@ turned_read {old} {a} {b} {c} {d} {new} {n} {st} {through} {low} {high} {body} {
 }
 
 -- the next of many things, behind the token that begins it
-pub next_read : {X Y : Type 0} {Is : List Token → X → List Token → Type 0} {Is' : List Token → Y → List Token → Type 0} {t : Kind} {s : Spot} {on : Line} {x : Item} {old m new : List Token} {v : Y}
-    (items : List Item → List Item) (wrap : Y → X) → old ≡ token t s ∷ m → on ≡ line_of old → ((k : List Item) → stuck (x ∷ k) (token t s ∷ m) ≡ stuck (items (x ∷ k)) m)
+pub next_read : {X Y : Type 0} {Is : List Token → X → List Token → Type 0} {Is' : List Token → Y → List Token → Type 0} {t : Kind} {s : Spot} {on : Line} {x : Expected} {old m new : List Token} {v : Y}
+    (items : List Expected → List Expected) (wrap : Y → X) → old ≡ token t s ∷ m → on ≡ line_of old → ((k : List Expected) → stuck (x ∷ k) (token t s ∷ m) ≡ stuck (items (x ∷ k)) m)
     → ((ts r : List Token) (y : Y) → Is' ts y r → Is ts (wrap y) r)
     → Reads (IsBehind (token t) Is' on) items m new (Ok v) → ReadsNext Is x old new (Ok (Some (wrap v)))
 next_read {Is = Is} {Is' = Is'} {t = t} {s = s} {x = x} {old = old} {m = m} {new = new} {v = v} items wrap e h opens whole r = record {
@@ -274,13 +271,13 @@ next_read {Is = Is} {Is' = Is'} {t = t} {s = s} {x = x} {old = old} {m = m} {new
   sticks = tt;
 }
 
-pub next_stopped : {X Y : Type 0} {Is : List Token → X → List Token → Type 0} {Is' : List Token → Y → List Token → Type 0} {t : Kind} {s : Spot} {x : Item} {old m new : List Token} {e : Stop}
-    (items : List Item → List Item) (result : Result (Option X) Stop) → IsErrAnd result (λ f. f ≡ e) → old ≡ token t s ∷ m
-    → ((k : List Item) → stuck (x ∷ k) (token t s ∷ m) ≡ stuck (items (x ∷ k)) m) → Reads Is' items m new (Err e) → ReadsNext Is x old new result
+pub next_stopped : {X Y : Type 0} {Is : List Token → X → List Token → Type 0} {Is' : List Token → Y → List Token → Type 0} {t : Kind} {s : Spot} {x : Expected} {old m new : List Token} {e : Stop}
+    (items : List Expected → List Expected) (result : Result (Option X) Stop) → IsErrAnd result (λ f. f ≡ e) → old ≡ token t s ∷ m
+    → ((k : List Expected) → stuck (x ∷ k) (token t s ∷ m) ≡ stuck (items (x ∷ k)) m) → Reads Is' items m new (Err e) → ReadsNext Is x old new result
 next_stopped items (Ok v) h o opens r = absurd h
 next_stopped {x = x} items (Err f) h o opens r = record { is = tt; goes = tt; sticks = λ q k. ap (stuck (x ∷ k)) o ∙ (opens k ∙ r.sticks (sym h ∙ q) (x ∷ k)) }
 
-no_statement_takes : (t : Kind) (k : List Item) → is_keyword word.Long t ≡ false → is_name t ≡ false → is_keyword word.If t ≡ false → is_keyword word.For t ≡ false → takes Statements t k ≡ None
+no_statement_takes : (t : Kind) (k : List Expected) → is_keyword word.Long t ≡ false → is_name t ≡ false → is_keyword word.If t ≡ false → is_keyword word.For t ≡ false → takes Statements t k ≡ None
 no_statement_takes (kind.Keyword word.Long) k a b c d = cc
 no_statement_takes (kind.Keyword word.If) k a b c d = cc
 no_statement_takes (kind.Keyword word.For) k a b c d = cc
@@ -299,7 +296,7 @@ none_next {old = old} f g h i =
       sticks = tt;
     }
 
-no_region_takes : (t : Kind) (k : List Item) → is_keyword word.For t ≡ false → takes Loops t k ≡ None
+no_region_takes : (t : Kind) (k : List Expected) → is_keyword word.For t ≡ false → takes Loops t k ≡ None
 no_region_takes (kind.Keyword word.For) k q = cc
 no_region_takes _ k q = refl
 
@@ -326,7 +323,7 @@ fixed_read {old} {a} {b} {c} {new} {n} {l} {on} f g h r = record {
   sticks = tt;
 }
 
-pub array_opens : {old m : List Token} → IsSign mark.OpenSquare old tt m → (k : List Item) → stuck (DeclTail ∷ k) old ≡ stuck (length_then k) m
+pub array_opens : {old m : List Token} → IsSign mark.OpenSquare old tt m → (k : List Expected) → stuck (DeclTail ∷ k) old ≡ stuck (length_then k) m
 array_opens h k = ap (stuck (DeclTail ∷ k)) h.1
 
 pub array_read : {old m new : List Token} {n l : ℕ} {on : Line} → IsSign mark.OpenSquare old tt m → Reads IsLength length_then m new (Ok l)
@@ -338,11 +335,11 @@ array_read {old} {m} {new} {n} {l} {on} h r = record {
   sticks = tt;
 }
 
-declared_takes : (t : Kind) (k : List Item) → is_mark mark.OpenSquare t ≡ false → takes DeclTail t k ≡ takes (This mark.Assign) t (Signed ∷ This mark.Semicolon ∷ k)
+declared_takes : (t : Kind) (k : List Expected) → is_mark mark.OpenSquare t ≡ false → takes DeclTail t k ≡ takes (This mark.Assign) t (Signed ∷ This mark.Semicolon ∷ k)
 declared_takes (kind.Mark mark.OpenSquare) k q = cc
 declared_takes _ k q = refl
 
-pub scalar_opens : {old m : List Token} → TakesNone (is_mark mark.OpenSquare) old m → (k : List Item) → stuck (DeclTail ∷ k) old ≡ stuck (This mark.Assign ∷ Signed ∷ This mark.Semicolon ∷ k) m
+pub scalar_opens : {old m : List Token} → TakesNone (is_mark mark.OpenSquare) old m → (k : List Expected) → stuck (DeclTail ∷ k) old ≡ stuck (This mark.Assign ∷ Signed ∷ This mark.Semicolon ∷ k) m
 scalar_opens {old} h k =
     same_stuck DeclTail (This mark.Assign) k (Signed ∷ This mark.Semicolon ∷ k) old refl refl (λ t r o. declared_takes t.kind k (h.other t r o))
     ∙ ap (stuck (This mark.Assign ∷ Signed ∷ This mark.Semicolon ∷ k)) (sym h.stays)
@@ -360,7 +357,7 @@ declared_read {old} {m} {a} {b} {new} {n} {x} {on} h f g e = record {
   sticks = tt;
 }
 
-pub minus_opens : {old m : List Token} → IsSign mark.Minus old tt m → (k : List Item) → stuck (Signed ∷ k) old ≡ stuck (AnyNumber ∷ k) m
+pub minus_opens : {old m : List Token} → IsSign mark.Minus old tt m → (k : List Expected) → stuck (Signed ∷ k) old ≡ stuck (AnyNumber ∷ k) m
 minus_opens h k = ap (stuck (Signed ∷ k)) h.1
 
 pub negative_read : {old m new : List Token} {n c : ℕ} {on : Line} → IsSign mark.Minus old tt m → Reads IsNumber (λ k. AnyNumber ∷ k) m new (Ok c)
@@ -371,11 +368,11 @@ negative_read {old} {m} {new} {n} {c} {on} h r = record {
   sticks = tt;
 }
 
-signed_takes : (t : Kind) (k : List Item) → is_mark mark.Minus t ≡ false → takes Signed t k ≡ takes AnyNumber t k
+signed_takes : (t : Kind) (k : List Expected) → is_mark mark.Minus t ≡ false → takes Signed t k ≡ takes AnyNumber t k
 signed_takes (kind.Mark mark.Minus) k q = cc
 signed_takes _ k q = refl
 
-pub number_there : {old m : List Token} → TakesNone (is_mark mark.Minus) old m → (k : List Item) → stuck (Signed ∷ k) old ≡ stuck (AnyNumber ∷ k) m
+pub number_there : {old m : List Token} → TakesNone (is_mark mark.Minus) old m → (k : List Expected) → stuck (Signed ∷ k) old ≡ stuck (AnyNumber ∷ k) m
 number_there {old} h k = same_stuck Signed AnyNumber k k old refl refl (λ t r o. signed_takes t.kind k (h.other t r o)) ∙ ap (stuck (AnyNumber ∷ k)) (sym h.stays)
 
 pub positive_read : {old m new : List Token} {n c : ℕ} {on : Line} → TakesNone (is_mark mark.Minus) old m → Reads IsNumber (λ k. AnyNumber ∷ k) m new (Ok c)
@@ -386,7 +383,7 @@ positive_read {old} {m} {new} {n} {c} {on} h r = record {
   sticks = tt;
 }
 
-no_decl_takes : (t : Kind) (k : List Item) → is_keyword word.Const t ≡ false → is_keyword word.Long t ≡ false → takes Decls t k ≡ None
+no_decl_takes : (t : Kind) (k : List Expected) → is_keyword word.Const t ≡ false → is_keyword word.Long t ≡ false → takes Decls t k ≡ None
 no_decl_takes (kind.Keyword word.Const) k a b = cc
 no_decl_takes (kind.Keyword word.Long) k a b = cc
 no_decl_takes _ k a b = refl

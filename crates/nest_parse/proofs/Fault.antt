@@ -2,7 +2,7 @@
 use Rattle.std.proofs.Common.{◌≡◌, ℕ, suc, ◌+◌, ◌<◌, Option, Some, None, List, [], ◌∷◌, ◌++◌, length, take, refl, sym, ◌∙◌, ap, subst, arith, append_assoc, length-append}
 use Rattle.nest_lex.specs.declared.token.Token.{Token}
 use Rattle.nest_parse.specs.Grammar.{BeginProgram, IsFaultAt}
-use Rattle.nest_parse.specs.Machine.{stuck, start}
+use Rattle.nest_parse.specs.Expected.{stuck, start}
 use Rattle.nest_parse.proofs.Complete.{complete}
 use Rattle.nest_parse.proofs.Viable.{Stops, stops, begins}
 

@@ -7,7 +7,7 @@ use Rattle.nest_lex.specs.declared.token.Tokens.{Tokens}
 use Rattle.nest_parse.specs.declared.refused.Stop.{Stop}
 use Rattle.nest_parse.specs.declared.refused.Stop.TheVariants.{Fault}
 use Rattle.nest_parse.specs.Grammar.{AreProgram, Derives, IsFaultAt}
-use Rattle.nest_parse.specs.Machine.{stuck, start, ReadsProgram}
+use Rattle.nest_parse.specs.Expected.{stuck, start, ReadsProgram}
 use Rattle.nest_parse.proofs.Viable.{stops}
 use Rattle.nest_parse.proofs.Fault.{fault_at}
 

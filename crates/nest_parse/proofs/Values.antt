@@ -10,33 +10,33 @@ use Rattle.nest_lex.specs.declared.token.Kind.TheVariants as kind
 use Rattle.nest_lex.specs.declared.token.Token.{Token}
 use Rattle.nest_parse.specs.declared.refused.Stop.{Stop}
 use Rattle.nest_parse.specs.Grammar.{sign, named, unary, IsFactor, a_number, a_name, a_word, in_parentheses, signed, IsLevel, tightest, level, IsTail, ended, goes_on, IsExpr, plain, choice}
-use Rattle.nest_parse.specs.Machine.{Item, This, AnyNumber, Factor, Subscript, Tail, Choice, level_then, value_then, takes, skips, stuck, Reads, IsSign, IsName, IsNumber, IsUnary, IsExprThen, IsBehindName, TakesOperator, TakesNone, is_name, is_mark}
+use Rattle.nest_parse.specs.Expected.{Expected, This, AnyNumber, Factor, Subscript, Tail, Choice, level_then, value_then, takes, skips, stuck, Reads, IsSign, IsName, IsNumber, IsUnary, IsExprThen, IsBehindName, TakesOperator, TakesNone, is_name, is_mark}
 use Rattle.nest_parse.proofs.Complete.{taken, skipped, takes_unary, takes_binary}
 use Rattle.nest_parse.proofs.Chains.{handed}
 
 -- what may be left out is, where no token goes on with it
-pub left_there : (x : Item) {such : Kind → Bool} {old new : List Token} → skips x ≡ true → ((t : Kind) (k : List Item) → such t ≡ false → takes x t k ≡ None) → TakesNone such old new
-    → (k : List Item) → stuck (x ∷ k) old ≡ stuck k new
+pub left_there : (x : Expected) {such : Kind → Bool} {old new : List Token} → skips x ≡ true → ((t : Kind) (k : List Expected) → such t ≡ false → takes x t k ≡ None) → TakesNone such old new
+    → (k : List Expected) → stuck (x ∷ k) old ≡ stuck k new
 left_there x {such} {old} {new} s none h k = skipped x k old s (λ t r o. none t.kind k (h.other t r o)) ∙ ap (stuck k) (sym h.stays)
 
-pub no_place : (t : Kind) (k : List Item) → is_mark mark.OpenSquare t ≡ false → takes Subscript t k ≡ None
+pub no_place : (t : Kind) (k : List Expected) → is_mark mark.OpenSquare t ≡ false → takes Subscript t k ≡ None
 no_place (kind.Mark mark.OpenSquare) k q = cc
 no_place _ k q = refl
 
-pub no_question : (t : Kind) (k : List Item) → is_mark mark.Question t ≡ false → takes Choice t k ≡ None
+pub no_question : (t : Kind) (k : List Expected) → is_mark mark.Question t ≡ false → takes Choice t k ≡ None
 no_question (kind.Mark mark.Question) k q = cc
 no_question _ k q = refl
 
 -- `left` is read, and whatever goes on at `now` goes on with it
 pub record Joined (d : ℕ) (old now : List Token) (left : Expr) : Type 0 where
   pub is : (e : Expr) (r : List Token) → IsTail d left now e r → IsLevel (suc d) old e r
-  pub goes : (k : List Item) → stuck (level_then (suc d) k) old ≡ stuck (Tail d ∷ k) now
+  pub goes : (k : List Expected) → stuck (level_then (suc d) k) old ≡ stuck (Tail d ∷ k) now
   pub shorter : length now < length old
 
 pub started : {d : ℕ} {old now : List Token} {left : Expr} → Reads (IsLevel d) (level_then d) old now (Ok left) → length now < length old → Joined d old now left
 started {d} h s = record { is = λ e r t. level h.is t; goes = λ k. h.goes (Tail d ∷ k); shorter = s }
 
-pub operator_opens : {d : ℕ} {now mid : List Token} {o : Bin} → TakesOperator d now mid (Some o) → (k : List Item) → stuck (Tail d ∷ k) now ≡ stuck (level_then d (Tail d ∷ k)) mid
+pub operator_opens : {d : ℕ} {now mid : List Token} {o : Bin} → TakesOperator d now mid (Some o) → (k : List Expected) → stuck (Tail d ∷ k) now ≡ stuck (level_then d (Tail d ∷ k)) mid
 operator_opens {d} {mid = mid} h k = let t = h.some in ap (stuck (Tail d ∷ k)) t.3 ∙ taken (Tail d) t.0 k t.1 mid (takes_binary t.0 k t.2)
 
 pub joined_on : {d : ℕ} {old now mid new : List Token} {left right : Expr} {o : Bin} → Joined d old now left → TakesOperator d now mid (Some o)
@@ -66,7 +66,7 @@ value_plain {old} {mid} {new} {e} r h = record {
 }
 
 pub question_opens : {old mid new : List Token} {e : Expr} → Reads (IsLevel 10) (level_then 10) old mid (Ok e) → IsSign mark.Question mid tt new
-    → (k : List Item) → stuck (value_then k) old ≡ stuck (value_then (This mark.Colon ∷ value_then k)) new
+    → (k : List Expected) → stuck (value_then k) old ≡ stuck (value_then (This mark.Colon ∷ value_then k)) new
 question_opens r h k = r.goes (Choice ∷ k) ∙ ap (stuck (Choice ∷ k)) h.1
 
 pub choice_read : {old m m' m'' new : List Token} {c a b : Expr} → Reads (IsLevel 10) (level_then 10) old m (Ok c) → IsSign mark.Question m tt m'
@@ -84,7 +84,7 @@ scalar_read {old} {new} {n} h = record {
   sticks = tt;
 }
 
-pub place_opens : {old mid : List Token} → IsSign mark.OpenSquare old tt mid → (k : List Item) → stuck (Subscript ∷ k) old ≡ stuck (value_then (This mark.CloseSquare ∷ k)) mid
+pub place_opens : {old mid : List Token} → IsSign mark.OpenSquare old tt mid → (k : List Expected) → stuck (Subscript ∷ k) old ≡ stuck (value_then (This mark.CloseSquare ∷ k)) mid
 place_opens h k = ap (stuck (Subscript ∷ k)) h.1
 
 pub word_read : {old mid new : List Token} {n : ℕ} {e : Expr} → IsSign mark.OpenSquare old tt mid
@@ -116,7 +116,7 @@ pub record Signed (old new : List Token) (o : Un) : Type 0 where
   pub no_opening : TakesNone (is_mark mark.OpenRound) m mid
   pub op : IsUnary mid o new
 
-pub sign_opens : {old new : List Token} {o : Un} → Signed old new o → (k : List Item) → stuck (Factor ∷ k) old ≡ stuck (Factor ∷ k) new
+pub sign_opens : {old new : List Token} {o : Un} → Signed old new o → (k : List Expected) → stuck (Factor ∷ k) old ≡ stuck (Factor ∷ k) new
 sign_opens {old} {new} h k =
     let t = h.op in
     ap (stuck (Factor ∷ k)) (sym h.no_name.stays ∙ (sym h.no_opening.stays ∙ t.3)) ∙ taken Factor t.0 k t.1 new (takes_unary t.0 k t.2)
@@ -138,7 +138,7 @@ pub record Unsigned (old new : List Token) : Type 0 where
   pub no_opening : TakesNone (is_mark mark.OpenRound) m mid
   pub no_op : TakesNone (λ t. is_some (unary t)) mid new
 
-same_takes : (t : Kind) (k : List Item) → is_name t ≡ false → is_mark mark.OpenRound t ≡ false → is_some (unary t) ≡ false → takes Factor t k ≡ takes AnyNumber t k
+same_takes : (t : Kind) (k : List Expected) → is_name t ≡ false → is_mark mark.OpenRound t ≡ false → is_some (unary t) ≡ false → takes Factor t k ≡ takes AnyNumber t k
 same_takes (kind.Number n) k a b c = refl
 same_takes (kind.Name n) k a b c = cc
 same_takes (kind.Keyword w) k a b c = refl
@@ -148,11 +148,11 @@ same_takes (kind.Mark mark.Not) k a b c = cc
 same_takes (kind.Mark mark.Flip) k a b c = cc
 same_takes (kind.Mark m) k a b c = refl
 
-number_at : (ts : List Token) (k : List Item) → ((t : Token) (r : List Token) → ts ≡ t ∷ r → takes Factor t.kind k ≡ takes AnyNumber t.kind k) → stuck (Factor ∷ k) ts ≡ stuck (AnyNumber ∷ k) ts
+number_at : (ts : List Token) (k : List Expected) → ((t : Token) (r : List Token) → ts ≡ t ∷ r → takes Factor t.kind k ≡ takes AnyNumber t.kind k) → stuck (Factor ∷ k) ts ≡ stuck (AnyNumber ∷ k) ts
 number_at [] k h = refl
 number_at (t ∷ ts) k h = rw (h t ts refl, stuck) refl
 
-pub number_opens : {old new : List Token} → Unsigned old new → (k : List Item) → stuck (Factor ∷ k) old ≡ stuck (AnyNumber ∷ k) new
+pub number_opens : {old new : List Token} → Unsigned old new → (k : List Expected) → stuck (Factor ∷ k) old ≡ stuck (AnyNumber ∷ k) new
 number_opens {old} {new} h k =
     let first : h.m ≡ old = h.no_name.stays in
     let second : h.mid ≡ old = h.no_opening.stays ∙ first in

@@ -20,7 +20,8 @@ use Rattle.nest_lex.specs.declared.token.Token.{Token}
 use Rattle.nest_lex.specs.contracts.token.Mark.{the_type as mark_type}
 use Rattle.nest_lex.specs.contracts.token.Keyword.{the_type as keyword_type}
 use Rattle.nest_parse.specs.Grammar.{token, sign, keyword, named, numeral, greatest, binary, unary, assignment, comparison, loosest, IsFactor, a_number, a_name, a_word, in_parentheses, signed, IsLevel, tightest, level, IsTail, ended, goes_on, IsExpr, plain, choice, IsStep, behind, before, by, IsStatement, declares, assigns, writes, chooses, turns, IsArm, an_arm, IsElses, no_else, else_if, last_else, IsLoop, a_loop, IsStatements, no_statement, statement, IsSigned, positive, negative, IsDecl, an_array, a_fixed_array, a_scalar, AreDecls, no_decl, declaration, AreLoops, no_loop, a_region, BeginProgram}
-use Rattle.nest_parse.specs.Machine.{Item, This, Word, ThisName, AnyName, AnyNumber, Factor, Subscript, Tail, Choice, Compare, Assigns, Statements, Elses, BehindElse, LoopName, Step, StepTail, Decls, DeclTail, Signed, Loops, level_then, value_then, block_then, arm_then, header_then, only_if, with_operand, with_right, takes, skips, or_skip, step, may_end, stuck, start}
+use Rattle.nest_parse.specs.Expected.{Expected, This, Word, ThisName, AnyName, AnyNumber, Factor, Subscript, Tail, Choice, Compare, Assigns, Statements, Elses, BehindElse, LoopName, Step, StepTail, Decls, DeclTail, Signed, Loops, level_then, value_then, block_then, arm_then, header_then, only_if, with_operand, with_right, takes, skips, or_skip, step, may_end, stuck, start}
+use Rattle.nest_parse.proofs.Complete.{head_is}
 
 -- one token of a kind
 pub data IsThe (k : Kind) : List Token → List Token → Type 0 where
@@ -31,7 +32,7 @@ pub data IsSubscript : List Token → List Token → Type 0 where
   with_place : {s s' : Spot} {ts r : List Token} {e : Expr} → IsExpr ts e (sign mark.CloseSquare s' ∷ r) → IsSubscript (sign mark.OpenSquare s ∷ ts) r
 
 -- what an item is, of tokens and those behind it: the rest of a thing makes the whole, whatever stood before
-abbrev pub Means : Item → List Token → List Token → Type 0
+abbrev pub Means : Expected → List Token → List Token → Type 0
 Means (This m) ts r = IsThe (kind.Mark m) ts r
 Means (Word w) ts r = IsThe (kind.Keyword w) ts r
 Means (ThisName n) ts r = IsThe (kind.Name n) ts r
@@ -55,18 +56,18 @@ Means Signed ts r = (z : ℤ) × IsSigned ts z r
 Means Loops ts r = (xs : List Loop) × AreLoops ts xs r
 
 -- the tokens are what is expected, all of them
-abbrev pub Spells : List Item → List Token → Type 0
+abbrev pub Spells : List Expected → List Token → Type 0
 Spells [] ts = ts ≡ []
 Spells (x ∷ k) ts = (r : List Token) × Means x ts r × Spells k r
 
-level_spells : (d : ℕ) (k : List Item) (ts : List Token) → Spells (level_then d k) ts → (e : Expr) × (r : List Token) × IsLevel d ts e r × Spells k r
+level_spells : (d : ℕ) (k : List Expected) (ts : List Token) → Spells (level_then d k) ts → (e : Expr) × (r : List Token) × IsLevel d ts e r × Spells k r
 level_spells zero k ts h = (h.1.0, h.0, tightest h.1.1, h.2)
 level_spells (suc d) k ts h =
     let l = level_spells d (Tail d ∷ k) ts h in
     let t = l.3.1 l.0 in
     (t.0, l.3.0, level l.2 t.1, l.3.2)
 
-value_spells : (k : List Item) (ts : List Token) → Spells (value_then k) ts → (e : Expr) × (r : List Token) × IsExpr ts e r × Spells k r
+value_spells : (k : List Expected) (ts : List Token) → Spells (value_then k) ts → (e : Expr) × (r : List Token) × IsExpr ts e r × Spells k r
 value_spells k ts h =
     let l = level_spells 10 (Choice ∷ k) ts h in
     let v = l.3.1 l.0 ts l.2 in
@@ -76,7 +77,7 @@ arm_on : {ts m a b c d e' : List Token} {e : Expr} {xs : List Stmt} → IsThe (k
     → IsThe (kind.Mark mark.OpenCurly) b c → IsStatements c xs d → IsThe (kind.Mark mark.CloseCurly) d e' → (s : Spot) → (x : Arm) × IsArm s ts x e'
 arm_on here x here here xs here s = (_, an_arm x xs)
 
-arm_spells : (k : List Item) (ts : List Token) → Spells (arm_then k) ts → (s : Spot) → (x : Arm) × (r : List Token) × IsArm s ts x r × Spells k r
+arm_spells : (k : List Expected) (ts : List Token) → Spells (arm_then k) ts → (s : Spot) → (x : Arm) × (r : List Token) × IsArm s ts x r × Spells k r
 arm_spells k ts h s =
     let v = value_spells (This mark.CloseRound ∷ block_then k) h.0 h.2 in
     let c = v.3 in
@@ -120,7 +121,7 @@ loop_on : {ts r1 r2 r3 r4 r5 r6 r7 r8 r9 r10 m1 m2 : List Token} {n c : ℕ} {t 
     → (l : Loop) × IsLoop (keyword word.For s ∷ sign mark.OpenRound s1 ∷ keyword word.Long s2 ∷ named n s3 ∷ ts) l r10
 loop_on here low here here c here high here st here here xs here s s1 s2 s3 = (_, a_loop low c high st xs)
 
-header_spells : (n : ℕ) (k : List Item) (ts : List Token) → Spells (header_then n k) ts → (s3 : Spot) → Spells (LoopName ∷ k) (named n s3 ∷ ts)
+header_spells : (n : ℕ) (k : List Expected) (ts : List Token) → Spells (header_then n k) ts → (s3 : Spot) → Spells (LoopName ∷ k) (named n s3 ∷ ts)
 header_spells n k ts h s3 =
     let block = This mark.CloseRound ∷ block_then k in
     let low = value_spells (This mark.Semicolon ∷ ThisName n ∷ Compare ∷ level_then 3 (This mark.Semicolon ∷ Step n ∷ block)) h.0 h.2 in
@@ -137,12 +138,12 @@ header_spells n k ts h s3 =
       end.2,
     )
 
-loop_opened : {ts a b c : List Token} (k : List Item) → IsThe (kind.Mark mark.OpenRound) ts a → IsThe (kind.Keyword word.Long) a b → Means LoopName b c → Spells k c → (s : Spot)
+loop_opened : {ts a b c : List Token} (k : List Expected) → IsThe (kind.Mark mark.OpenRound) ts a → IsThe (kind.Keyword word.Long) a b → Means LoopName b c → Spells k c → (s : Spot)
     → (l : Loop) × (r : List Token) × IsLoop (keyword word.For s ∷ ts) l r × Spells k r
 loop_opened {c = c} k (here {s = s1}) (here {s = s2}) m more s = let l = m s s1 s2 in (l.0, c, l.1, more)
 
 -- a loop's tokens, where its parts are expected one by one
-region_on : (k : List Item) (ts : List Token) → Spells (This mark.OpenRound ∷ Word word.Long ∷ LoopName ∷ k) ts → (s : Spot)
+region_on : (k : List Expected) (ts : List Token) → Spells (This mark.OpenRound ∷ Word word.Long ∷ LoopName ∷ k) ts → (s : Spot)
     → (l : Loop) × (r : List Token) × IsLoop (keyword word.For s ∷ ts) l r × Spells k r
 region_on k ts h s = loop_opened k h.1 h.2.1 h.2.2.1 h.2.2.2 s
 
@@ -172,25 +173,25 @@ by_on : {ts r : List Token} {c : ℕ} → c ≤ greatest → IsThe (kind.Number 
 by_on h here n s s' = (_, by h)
 
 -- what is expected behind a token that is taken makes, with this token, what was expected
-abbrev On : Item → List Item → Kind → Spot → List Token → Option (List Item) → Type 0
+abbrev On : Expected → List Expected → Kind → Spot → List Token → Option (List Expected) → Type 0
 On x k t sp ts None = Unit {0}
 On x k t sp ts (Some s) = Spells s ts → Spells (x ∷ k) (token t sp ∷ ts)
 
-on_if : (x : Item) (k : List Item) (t : Kind) (sp : Spot) (ts : List Token) (s : List Item) (b : Bool) → (b ≡ true → Spells s ts → Spells (x ∷ k) (token t sp ∷ ts))
+on_if : (x : Expected) (k : List Expected) (t : Kind) (sp : Spot) (ts : List Token) (s : List Expected) (b : Bool) → (b ≡ true → Spells s ts → Spells (x ∷ k) (token t sp ∷ ts))
     → On x k t sp ts (only_if b s)
 on_if x k t sp ts s true f = f refl
 on_if x k t sp ts s false f = tt
 
-on_some : {X : Type 0} (x : Item) (k : List Item) (t : Kind) (sp : Spot) (ts : List Token) (found : Option X) → ((v : X) → found ≡ Some v → Spells k ts → Spells (x ∷ k) (token t sp ∷ ts))
+on_some : {X : Type 0} (x : Expected) (k : List Expected) (t : Kind) (sp : Spot) (ts : List Token) (found : Option X) → ((v : X) → found ≡ Some v → Spells k ts → Spells (x ∷ k) (token t sp ∷ ts))
     → On x k t sp ts (only_if (is_some found) k)
 on_some x k t sp ts None f = tt
 on_some x k t sp ts (Some v) f = f v refl
 
-on_operand : (k : List Item) (t : Kind) (sp : Spot) (ts : List Token) (u : Option Un) → unary t ≡ u → On Factor k t sp ts (with_operand u k)
+on_operand : (k : List Expected) (t : Kind) (sp : Spot) (ts : List Token) (u : Option Un) → unary t ≡ u → On Factor k t sp ts (with_operand u k)
 on_operand k t sp ts None e = tt
 on_operand k t sp ts (Some o) e = λ h. (h.0, (expr.Unary o h.1.0, signed e h.1.1), h.2)
 
-on_right : (d : ℕ) (k : List Item) (t : Kind) (sp : Spot) (ts : List Token) (f : Option (ℕ × Bin)) → binary t ≡ f → On (Tail d) k t sp ts (with_right f d k)
+on_right : (d : ℕ) (k : List Expected) (t : Kind) (sp : Spot) (ts : List Token) (f : Option (ℕ × Bin)) → binary t ≡ f → On (Tail d) k t sp ts (with_right f d k)
 on_right d k t sp ts None e = tt
 on_right d k t sp ts (Some found) e = on_if (Tail d) k t sp ts (level_then d (Tail d ∷ k)) (eqb found.0 d) (λ q h.
     let l = level_spells d (Tail d ∷ k) ts h in
@@ -201,7 +202,7 @@ on_right d k t sp ts (Some found) e = on_if (Tail d) k t sp ts (level_then d (Ta
 is_here : {k k' : Kind} {s : Spot} {r : List Token} → k ≡ k' → IsThe k' (token k s ∷ r) r
 is_here {k} {k'} {s} {r} e = subst (λ t. IsThe t (token k s ∷ r) r) e here
 
-takes_on : (x : Item) (t : Kind) (k : List Item) (sp : Spot) (ts : List Token) → On x k t sp ts (takes x t k)
+takes_on : (x : Expected) (t : Kind) (k : List Expected) (sp : Spot) (ts : List Token) → On x k t sp ts (takes x t k)
 takes_on (This m) (kind.Mark t) k sp ts = on_if (This m) k (kind.Mark t) sp ts k (sameb mark_type m t) (λ e h. (ts, is_here (ap kind.Mark (sym (same_true mark_type tt m t e))), h))
 takes_on (Word w) (kind.Keyword t) k sp ts = on_if (Word w) k (kind.Keyword t) sp ts k (sameb keyword_type w t) (λ e h. (ts, is_here (ap kind.Keyword (sym (same_true keyword_type tt w t e))), h))
 takes_on (ThisName n) (kind.Name t) k sp ts = on_if (ThisName n) k (kind.Name t) sp ts k (eqb t n) (λ e h. (ts, is_here (ap kind.Name (eqb-true t n e)), h))
@@ -273,7 +274,7 @@ takes_on Loops (kind.Keyword word.For) k sp ts = λ h.
 takes_on _ _ k sp ts = tt
 
 -- what may be left out is there without a token
-left_out : (x : Item) → skips x ≡ true → (r : List Token) → Means x r r
+left_out : (x : Expected) → skips x ≡ true → (r : List Token) → Means x r r
 left_out Subscript e r = bare
 left_out (Tail d) e r = λ a. (a, ended)
 left_out Choice e r = λ c us l. (c, plain l)
@@ -295,7 +296,7 @@ nothing : 0 ≤ greatest
 nothing = omega arith
 
 -- each item has tokens
-least : (x : Item) (r : List Token) → (ts : List Token) × Means x ts r
+least : (x : Expected) (r : List Token) → (ts : List Token) × Means x ts r
 least (This m) r = (token (kind.Mark m) nowhere ∷ r, here)
 least (Word w) r = (token (kind.Keyword w) nowhere ∷ r, here)
 least (ThisName n) r = (token (kind.Name n) nowhere ∷ r, here)
@@ -316,14 +317,14 @@ least DeclTail r = (sign mark.OpenSquare nowhere ∷ numeral 0 nowhere ∷ sign 
 least Signed r = (numeral 0 nowhere ∷ r, (_, positive nothing))
 least x r = (r, left_out x refl r)
 
-completes : (s : List Item) → (ts : List Token) × Spells s ts
+completes : (s : List Expected) → (ts : List Token) × Spells s ts
 completes [] = ([], refl)
 completes (x ∷ k) =
     let more = completes k in
     let l = least x more.0 in
     (l.0, (more.0, l.1, more.1))
 
-step_at : (x : Item) (k s : List Item) (t : Kind) (sp : Spot) (ts : List Token) (o other : Option (List Item)) (b : Bool) → On x k t sp ts o
+step_at : (x : Expected) (k s : List Expected) (t : Kind) (sp : Spot) (ts : List Token) (o other : Option (List Expected)) (b : Bool) → On x k t sp ts o
     → (b ≡ true → (r : List Token) → Means x r r) → (other ≡ Some s → Spells s ts → Spells k (token t sp ∷ ts))
     → or_skip o b other ≡ Some s → Spells s ts → Spells (x ∷ k) (token t sp ∷ ts)
 step_at x k s t sp ts (Some u) other b on out more e h = let same : u ≡ s = cc in on (subst (λ v. Spells v ts) (sym same) h)
@@ -331,13 +332,13 @@ step_at x k s t sp ts None other true on out more e h = (token t sp ∷ ts, out 
 step_at x k s t sp ts None other false on out more e h = cc
 
 -- a step of the machine is a step of the grammar
-steps : (k s : List Item) (t : Kind) (sp : Spot) (ts : List Token) → step t k ≡ Some s → Spells s ts → Spells k (token t sp ∷ ts)
+steps : (k s : List Expected) (t : Kind) (sp : Spot) (ts : List Token) → step t k ≡ Some s → Spells s ts → Spells k (token t sp ∷ ts)
 steps [] s t sp ts e h = cc
 steps (x ∷ k) s t sp ts e h = step_at x k s t sp ts (takes x t k) (step t k) (skips x) (takes_on x t k sp ts) (left_out x) (steps k s t sp ts) e h
 
 -- Where the machine is stuck: what stands before completes to what is expected, and the token there stops it
 -- whatever follows.
-pub record Stops (s : List Item) (ts r : List Token) : Type 0 where
+pub record Stops (s : List Expected) (ts r : List Token) : Type 0 where
   pub front : List Token
   pub rest : List Token
   pub split : ts ≡ front ++ r
@@ -351,11 +352,8 @@ at_end false r e = cc
 not_empty : {t : Token} {us : List Token} → ◌≡◌ {A = List Token} [] (t ∷ us) → ⊥
 not_empty e = cc
 
-head_is : {t u : Token} {ts us : List Token} → ◌≡◌ {A = List Token} (t ∷ ts) (u ∷ us) → t ≡ u
-head_is e = cc
-
 -- behind a step, or at none
-behind_step : (s : List Item) (t : Token) (ts r : List Token) (o : Option (List Item)) → step t.kind s ≡ o → ((s' : List Item) → stuck s' ts ≡ Some r → Stops s' ts r)
+behind_step : (s : List Expected) (t : Token) (ts r : List Token) (o : Option (List Expected)) → step t.kind s ≡ o → ((s' : List Expected) → stuck s' ts ≡ Some r → Stops s' ts r)
     → (elim o [ None ↦ Some (t ∷ ts) | Some s' ↦ stuck s' ts ]) ≡ Some r → Stops s (t ∷ ts) r
 behind_step s t ts r None o later e =
     let c = completes s in
@@ -371,7 +369,7 @@ behind_step s t ts r (Some s') o later e =
       local = λ u us vs h. rw (o, stuck) (more.local u us vs h);
     }
 
-pub stops : (s : List Item) (ts r : List Token) → stuck s ts ≡ Some r → Stops s ts r
+pub stops : (s : List Expected) (ts r : List Token) → stuck s ts ≡ Some r → Stops s ts r
 stops s [] r e =
     let end = at_end (may_end s) r e in
     let c = completes s in

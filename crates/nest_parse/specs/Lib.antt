@@ -1,2 +1,2 @@
 pub mod Grammar
-pub mod Machine
+pub mod Expected

@@ -3,7 +3,7 @@ ghost use Rattle.std.specs.Prelude.{◌≡◌, ◌<◌, Some, [], ◌∷◌, len
 ghost use Rattle.nest_lex.specs.declared.token.Kind.{Kind};
 ghost use Rattle.nest_lex.specs.declared.token.Spot.{Spot};
 ghost use Rattle.nest_parse.specs.Grammar.{token};
-ghost use Rattle.nest_parse.specs.Machine.{next_kind, line_of};
+ghost use Rattle.nest_parse.specs.Expected.{next_kind, line_of};
 
 use nest_lex::{Kind, Token};
 use nest_syntax::Line;

@@ -3,7 +3,7 @@ ghost use Rattle.std.specs.Prelude.{◌≡◌, ◌∷◌, ◌<◌, ◌≤◌, po
 ghost use Rattle.nest_lex.specs.declared.token.Keyword.TheVariants as words;
 ghost use Rattle.nest_lex.specs.declared.token.Mark.TheVariants as marks;
 ghost use Rattle.nest_parse.specs.Grammar as grammar;
-ghost use Rattle.nest_parse.specs.Machine as machine;
+ghost use Rattle.nest_parse.specs.Expected as machine;
 
 use crate::cursor::Cursor;
 use crate::refused::Stop;

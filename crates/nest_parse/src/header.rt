@@ -1,7 +1,7 @@
 //! The header of a loop.
 ghost use Rattle.std.specs.Prelude.{◌∷◌, ◌<◌, length, OnOk};
 ghost use Rattle.nest_parse.specs.Grammar as grammar;
-ghost use Rattle.nest_parse.specs.Machine as machine;
+ghost use Rattle.nest_parse.specs.Expected as machine;
 
 use crate::cursor::Cursor;
 use crate::refused::Stop;

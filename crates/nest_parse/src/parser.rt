@@ -6,7 +6,7 @@ ghost use Rattle.nest_lex.specs.Text.{AreWellNamed};
 ghost use Rattle.nest_lex.specs.declared.token.Token.{Token};
 ghost use Rattle.nest_lex.specs.declared.token.Tokens.{Tokens};
 ghost use Rattle.nest_parse.specs.Grammar as grammar;
-ghost use Rattle.nest_parse.specs.Machine as machine;
+ghost use Rattle.nest_parse.specs.Expected as machine;
 
 use crate::cursor::Cursor;
 use crate::refused::{ParseRefused, Stop};

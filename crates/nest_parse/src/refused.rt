@@ -1,6 +1,6 @@
 ghost use Rattle.std.specs.Prelude.{◌≡◌};
 ghost use Rattle.nest_parse.specs.declared.refused.Stop.TheVariants.{NoMemory};
-ghost use Rattle.nest_parse.specs.declared.refused.ParseRefused.TheVariants.{NoMemory as NoSpace};
+ghost use Rattle.nest_parse.specs.declared.refused.ParseRefused.TheVariants.{NoMemory as OutOfMemory};
 
 use std::alloc::AllocError;
 use thiserror::Error;
@@ -33,7 +33,7 @@ impl From<AllocError> for Stop {
 }
 
 impl From<AllocError> for ParseRefused {
-    ghost from_gives = { λ _ e. e ≡ NoSpace };
+    ghost from_gives = { λ _ e. e ≡ OutOfMemory };
 
     fn from(_error: AllocError) -> ParseRefused {
         ParseRefused::NoMemory

@@ -5,8 +5,8 @@ ghost use Rattle.nest_parse.specs.Grammar as grammar;
 ghost use Rattle.nest_lex.specs.declared.token.Keyword.{Keyword};
 ghost use Rattle.nest_lex.specs.declared.token.Mark.{Mark};
 ghost use Rattle.nest_lex.specs.declared.token.Kind.TheVariants as kinds;
-ghost use Rattle.nest_parse.specs.Machine as machine;
-ghost use Rattle.nest_parse.specs.Machine.{next_kind};
+ghost use Rattle.nest_parse.specs.Expected as machine;
+ghost use Rattle.nest_parse.specs.Expected.{next_kind};
 
 use crate::cursor::Cursor;
 use crate::kinds::{is_same_keyword, is_same_mark};

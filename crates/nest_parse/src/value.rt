@@ -1,7 +1,7 @@
 //! Expressions. At a fault the cursor stands before the token that can't stand there.
 ghost use Rattle.std.specs.Prelude.{◌≡◌, suc, pos, ◌∷◌, ◌<◌, ◌≤◌, length, OnOk};
 ghost use Rattle.nest_parse.specs.Grammar as grammar;
-ghost use Rattle.nest_parse.specs.Machine as machine;
+ghost use Rattle.nest_parse.specs.Expected as machine;
 
 use crate::cursor::Cursor;
 use crate::refused::Stop;

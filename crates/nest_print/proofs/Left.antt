@@ -6,7 +6,7 @@ use Rattle.std.proofs.lemmas.List.{get_or-drop, length-drop, drop-drop, length-a
 use Rattle.nest_lex.specs.Bytes.{is_blank, is_word_byte}
 use Rattle.nest_lex.specs.Load.{load_after}
 use Rattle.nest_lex.specs.Pieces.{Stands}
-use Rattle.nest_lex.specs.Places.{spot_of}
+use Rattle.nest_lex.specs.Spots.{spot_of}
 use Rattle.nest_lex.specs.Reader.{AllKnown, IsKnown}
 use Rattle.nest_lex.specs.Scans.{IsWordEnd}
 use Rattle.nest_lex.specs.Text.{Lexeme, Whole, Reads, kind_of, token_of}

@@ -6,4 +6,4 @@
 
 mod print;
 
-pub use print::{Standing, print_program};
+pub use print::print_program;

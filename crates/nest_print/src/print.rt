@@ -12,7 +12,7 @@ use std::alloc::Global;
 
 /// How an expression stands: alone, as the high bound of a loop, or as an operand.
 #[derive(Clone, Copy, Debug, PartialEq, Eq)]
-pub enum Standing {
+pub(crate) enum Standing {
     Alone,
     Bound,
     Operand,

@@ -18,33 +18,33 @@ use Rattle.nest_syntax.specs.Among.{Each}
 use Rattle.nest_syntax.specs.Shape.{Entry, Plain, Declares, Invokes, body_of_loop, body_of_write, items, items_in_arm, items_of, invoked_in, invoked_in_region}
 use Rattle.nest_syntax.proofs.Shapes.{items-declare, items-assign, items-write, items-if, items-loop, items_in_arm-is}
 use Rattle.nest_syntax.proofs.Inductions.{stmt_induction, each_left, each_right, each_both}
-use Rattle.lowest_line.specs.Lowest.{lines_where}
+use Rattle.nest_syntax.specs.Lowest.{lines_where}
 use Rattle.nest_scope.specs.declared.occurrences.Level.{Level}
 use Rattle.nest_scope.specs.declared.occurrences.Level.TheVariants as level
 use Rattle.nest_scope.specs.declared.occurrences.Occurrence.{Occurrence}
 use Rattle.nest_scope.specs.declared.occurrences.Action.TheVariants as action
 use Rattle.nest_scope.specs.Occurrences.{Scope, Walk, Listing, bound as bound_to, with_bound, inner, variable_at, occurrence, read_in, in_same_scope, stmt_node, arm_node, loop_node, in_stmt, in_arm, in_loop, in_block, in_decls, in_regions, unbound, occurrences_of}
 use Rattle.nest_scope.specs.Rules.{line_of, redeclares, uses_unknown, writes_const, assigns_loop_variable, assigns_scheduler_scalar, lines_redeclared, lines_unknown, lines_const_written, lines_loop_variable_assigned, lines_scheduler_scalar_assigned}
-use Rattle.nest_scope.specs.Entered.{Entered, Entering, entered_in_turn, entered_by_arms, entered_node, entered_arm_node, entered_loop_node, entered_by, entered_by_arm, entered_in, entered_in_region, declared_scope, entered_of, IsBound, HasBoundNames}
+use Rattle.nest_scope.specs.Entered.{Entered, Entering, entered_by_arms, entered_node, entered_arm_node, entered_loop_node, entered_by, entered_by_arm, entered_in, entered_in_region, declared_scope, entered_of, IsBound, HasBoundNames}
 use Rattle.nest_scope.proofs.Equations.{occurrences-if, occurrences-arm, occurrences-loop}
 
 -- what each kind of item enters
-entered-declare : (line : Line) (name : ℕ) (e : Expr) (scope : Scope) → entered_by (stmt.Declare line name e) scope ≡ []
+pub entered-declare : (line : Line) (name : ℕ) (e : Expr) (scope : Scope) → entered_by (stmt.Declare line name e) scope ≡ []
 entered-declare line name e scope = ap (λ s. entered_by s scope) (sym (rolls-Declare line name e)) ∙ ap (λ (f : Entering). f scope) (para-roll-Stmt Entering Entering Entering entered_node entered_arm_node entered_loop_node (Stmt-F.Declare line name e))
 
-entered-assign : (line : Line) (name : ℕ) (o : Op) (e : Expr) (scope : Scope) → entered_by (stmt.Assign line name o e) scope ≡ []
+pub entered-assign : (line : Line) (name : ℕ) (o : Op) (e : Expr) (scope : Scope) → entered_by (stmt.Assign line name o e) scope ≡ []
 entered-assign line name o e scope = ap (λ s. entered_by s scope) (sym (rolls-Assign line name o e)) ∙ ap (λ (f : Entering). f scope) (para-roll-Stmt Entering Entering Entering entered_node entered_arm_node entered_loop_node (Stmt-F.Assign line name o e))
 
-entered-write : (line : Line) (name : ℕ) (p : Expr) (o : Op) (e : Expr) (scope : Scope) → entered_by (stmt.Write line name p o e) scope ≡ record { body = body_of_write line (stmt.Write line name p o e); level = level.Items; scope = scope } ∷ []
+pub entered-write : (line : Line) (name : ℕ) (p : Expr) (o : Op) (e : Expr) (scope : Scope) → entered_by (stmt.Write line name p o e) scope ≡ record { body = body_of_write line (stmt.Write line name p o e); level = level.Items; scope = scope } ∷ []
 entered-write line name p o e scope = ap (λ s. entered_by s scope) (sym (rolls-Write line name p o e)) ∙ ap (λ (f : Entering). f scope) (para-roll-Stmt Entering Entering Entering entered_node entered_arm_node entered_loop_node (Stmt-F.Write line name p o e))
 
-entered-if : (arms : List Arm) (other : List Stmt) (scope : Scope) → entered_by (stmt.If arms other) scope ≡ entered_by_arms (map (λ a. (a, entered_by_arm a)) arms) scope ++ entered_in other scope
+pub entered-if : (arms : List Arm) (other : List Stmt) (scope : Scope) → entered_by (stmt.If arms other) scope ≡ entered_by_arms (map (λ a. (a, entered_by_arm a)) arms) scope ++ entered_in other scope
 entered-if arms other scope = ap (λ s. entered_by s scope) (sym (rolls-If arms other)) ∙ ap (λ (f : Entering). f scope) (para-roll-Stmt Entering Entering Entering entered_node entered_arm_node entered_loop_node (Stmt-F.If arms other))
 
-entered-loop : (l : Loop) (scope : Scope) → entered_by (stmt.Loop l) scope ≡ record { body = body_of_loop l; level = level.Body; scope = with_bound scope l.name (variable_at level.Items) } ∷ []
+pub entered-loop : (l : Loop) (scope : Scope) → entered_by (stmt.Loop l) scope ≡ record { body = body_of_loop l; level = level.Body; scope = with_bound scope l.name (variable_at level.Items) } ∷ []
 entered-loop l scope = ap (λ s. entered_by s scope) (sym (rolls-Loop l)) ∙ ap (λ (f : Entering). f scope) (para-roll-Stmt Entering Entering Entering entered_node entered_arm_node entered_loop_node (Stmt-F.Loop l))
 
-entered_by_arm-is : (a : Arm) (scope : Scope) → entered_by_arm a scope ≡ entered_in a.body scope
+pub entered_by_arm-is : (a : Arm) (scope : Scope) → entered_by_arm a scope ≡ entered_in a.body scope
 entered_by_arm-is a scope = ap (λ r. entered_by_arm r scope) (sym (roll-out-Arm a)) ∙ ap (λ (f : Entering). f scope) (para-roll-Arm Entering Entering Entering entered_node entered_arm_node entered_loop_node (out-Arm a))
 
 -- which bodies these are
@@ -96,70 +96,78 @@ regions_invoked scope (l ∷ regions) =
     ∙ ap (λ bodies. bodies ++ map (λ (e : Entered). e.body) (flat_map (entered_in_region scope) regions)) (block_invoked l.body (each_invoked l.body) (with_bound scope l.name (variable_at level.Outside)))
     ∙ ap (λ bodies. invoked_in_region l ++ bodies) (regions_invoked scope regions)
 
--- names that are bound among the items are bound in the bodies
-abbrev KeepsBound : Stmt → Type 0
-KeepsBound s = (scope : Scope) → Each IsBound (in_stmt s level.Items scope).occurrences → Each HasBoundNames (entered_by s scope)
+pub loop_is : (at : Level) (l : Loop) (scope : Scope) → (in_stmt (stmt.Loop l) at scope).occurrences ≡ in_loop l at scope
+loop_is at l scope =
+    ap (λ s. (in_stmt s at scope).occurrences) (sym (rolls-Loop l))
+    ∙ ap (λ (p : Walk). (p at scope).occurrences) (fold-roll-Stmt Walk Listing Listing stmt_node arm_node loop_node (Stmt-F.Loop l))
 
-block_bound : (stmts : List Stmt) → Each KeepsBound stmts → (scope : Scope) → Each IsBound (in_block stmts level.Items scope) → Each HasBoundNames (entered_in stmts scope)
-block_bound [] each scope bound = tt
-block_bound (s ∷ stmts) each scope bound =
-    let behind : Scope = (in_stmt s level.Items scope).behind in
-    let here : List Occurrence = (in_stmt s level.Items scope).occurrences in
-    each_both HasBoundNames (entered_by s scope) (entered_in stmts behind)
-    (each.0 scope (each_left IsBound here (in_block stmts level.Items behind) bound))
-    (block_bound stmts each.1 behind (each_right IsBound here (in_block stmts level.Items behind) bound))
+-- what holds of each occurrence among the items holds of each in the bodies
+module _ (P : Occurrence → Type 0) where
+  abbrev HasEach : Entered → Type 0
+  HasEach e = Each P (in_block e.body.stmts e.level e.scope)
 
-arms_bound : (arms : List Arm) → Each (λ (a : Arm). Each KeepsBound a.body) arms → (scope : Scope) → Each IsBound (in_same_scope (map in_arm arms) level.Items scope) → Each HasBoundNames (entered_by_arms (map (λ a. (a, entered_by_arm a)) arms) scope)
-arms_bound [] each scope bound = tt
-arms_bound (a ∷ arms) each scope bound =
-    let rest : List Occurrence = in_same_scope (map in_arm arms) level.Items scope in
-    let here : Each IsBound (read_in a.line level.Items scope a.test ++ in_block a.body level.Items scope) = subst (Each IsBound) (occurrences-arm level.Items scope a) (each_left IsBound (in_arm a level.Items scope) rest bound) in
-    each_both HasBoundNames (entered_by_arm a scope) (entered_by_arms (map (λ r. (r, entered_by_arm r)) arms) scope)
-    (subst (Each HasBoundNames) (sym (entered_by_arm-is a scope)) (block_bound a.body each.0 scope (each_right IsBound (read_in a.line level.Items scope a.test) (in_block a.body level.Items scope) here)))
-    (arms_bound arms each.1 scope (each_right IsBound (in_arm a level.Items scope) rest bound))
+  abbrev Keeps : Stmt → Type 0
+  Keeps s = (scope : Scope) → Each P (in_stmt s level.Items scope).occurrences → Each HasEach (entered_by s scope)
 
--- the body of a loop whose names are bound
-inside_bound : (at : Level) (scope : Scope) (l : Loop) → Each IsBound (in_loop l at scope) → Each IsBound (in_block l.body (inner at) (with_bound scope l.name (variable_at at)))
-inside_bound at scope l bound =
-    let inside : Scope = with_bound scope l.name (variable_at at) in
-    let low : List Occurrence = read_in l.line at scope l.low in
-    let high : List Occurrence = read_in l.line at inside l.high in
-    let body : List Occurrence = in_block l.body (inner at) inside in
-    let parts : Each IsBound (occurrence l.line at action.Declared (bound_to scope l.name) ∷ (low ++ (high ++ body))) = subst (Each IsBound) (occurrences-loop at scope l) bound in
-    each_right IsBound high body (each_right IsBound low (high ++ body) parts.1)
+  block_bound : (stmts : List Stmt) → Each Keeps stmts → (scope : Scope) → Each P (in_block stmts level.Items scope) → Each HasEach (entered_in stmts scope)
+  block_bound [] each scope bound = tt
+  block_bound (s ∷ stmts) each scope bound =
+      let behind : Scope = (in_stmt s level.Items scope).behind in
+      let here : List Occurrence = (in_stmt s level.Items scope).occurrences in
+      each_both HasEach (entered_by s scope) (entered_in stmts behind)
+      (each.0 scope (each_left P here (in_block stmts level.Items behind) bound))
+      (block_bound stmts each.1 behind (each_right P here (in_block stmts level.Items behind) bound))
 
-loop_is : (l : Loop) (scope : Scope) → (in_stmt (stmt.Loop l) level.Items scope).occurrences ≡ in_loop l level.Items scope
-loop_is l scope =
-    ap (λ s. (in_stmt s level.Items scope).occurrences) (sym (rolls-Loop l))
-    ∙ ap (λ (p : Walk). (p level.Items scope).occurrences) (fold-roll-Stmt Walk Listing Listing stmt_node arm_node loop_node (Stmt-F.Loop l))
+  arms_bound : (arms : List Arm) → Each (λ (a : Arm). Each Keeps a.body) arms → (scope : Scope) → Each P (in_same_scope (map in_arm arms) level.Items scope) → Each HasEach (entered_by_arms (map (λ a. (a, entered_by_arm a)) arms) scope)
+  arms_bound [] each scope bound = tt
+  arms_bound (a ∷ arms) each scope bound =
+      let rest : List Occurrence = in_same_scope (map in_arm arms) level.Items scope in
+      let here : Each P (read_in a.line level.Items scope a.test ++ in_block a.body level.Items scope) = subst (Each P) (occurrences-arm level.Items scope a) (each_left P (in_arm a level.Items scope) rest bound) in
+      each_both HasEach (entered_by_arm a scope) (entered_by_arms (map (λ r. (r, entered_by_arm r)) arms) scope)
+      (subst (Each HasEach) (sym (entered_by_arm-is a scope)) (block_bound a.body each.0 scope (each_right P (read_in a.line level.Items scope a.test) (in_block a.body level.Items scope) here)))
+      (arms_bound arms each.1 scope (each_right P (in_arm a level.Items scope) rest bound))
 
-keeps_bound : (s : Stmt) → KeepsBound s
-keeps_bound = stmt_induction KeepsBound
-    (λ line name e scope bound. subst (Each HasBoundNames) (sym (entered-declare line name e scope)) tt)
-    (λ line name o e scope bound. subst (Each HasBoundNames) (sym (entered-assign line name o e scope)) tt)
-    (λ line name p o e scope bound.
-    subst (Each HasBoundNames) (sym (entered-write line name p o e scope)) (subst (Each IsBound) (sym (append-nil (in_stmt (stmt.Write line name p o e) level.Items scope).occurrences)) bound, tt))
-    (λ arms other in_arms in_other scope bound.
-    let parts : Each IsBound (in_same_scope (map in_arm arms) level.Items scope ++ in_block other level.Items scope) = subst (Each IsBound) (occurrences-if level.Items scope arms other) bound in
-    subst (Each HasBoundNames) (sym (entered-if arms other scope))
-    (each_both HasBoundNames (entered_by_arms (map (λ a. (a, entered_by_arm a)) arms) scope) (entered_in other scope)
-    (arms_bound arms in_arms scope (each_left IsBound (in_same_scope (map in_arm arms) level.Items scope) (in_block other level.Items scope) parts))
-    (block_bound other in_other scope (each_right IsBound (in_same_scope (map in_arm arms) level.Items scope) (in_block other level.Items scope) parts))))
-    (λ l inside scope bound. subst (Each HasBoundNames) (sym (entered-loop l scope)) (inside_bound level.Items scope l (subst (Each IsBound) (loop_is l scope) bound), tt))
+  -- the body of a loop whose names are bound
+  inside_bound : (at : Level) (scope : Scope) (l : Loop) → Each P (in_loop l at scope) → Each P (in_block l.body (inner at) (with_bound scope l.name (variable_at at)))
+  inside_bound at scope l bound =
+      let inside : Scope = with_bound scope l.name (variable_at at) in
+      let low : List Occurrence = read_in l.line at scope l.low in
+      let high : List Occurrence = read_in l.line at inside l.high in
+      let body : List Occurrence = in_block l.body (inner at) inside in
+      let parts : Each P (occurrence l.line at action.Declared (bound_to scope l.name) ∷ (low ++ (high ++ body))) = subst (Each P) (occurrences-loop at scope l) bound in
+      each_right P high body (each_right P low (high ++ body) parts.1)
 
-each_keeps : (stmts : List Stmt) → Each KeepsBound stmts
-each_keeps [] = tt
-each_keeps (s ∷ stmts) = (keeps_bound s, each_keeps stmts)
+  keeps : (s : Stmt) → Keeps s
+  keeps = stmt_induction Keeps
+      (λ line name e scope bound. subst (Each HasEach) (sym (entered-declare line name e scope)) tt)
+      (λ line name o e scope bound. subst (Each HasEach) (sym (entered-assign line name o e scope)) tt)
+      (λ line name p o e scope bound.
+      subst (Each HasEach) (sym (entered-write line name p o e scope)) (subst (Each P) (sym (append-nil (in_stmt (stmt.Write line name p o e) level.Items scope).occurrences)) bound, tt))
+      (λ arms other in_arms in_other scope bound.
+      let parts : Each P (in_same_scope (map in_arm arms) level.Items scope ++ in_block other level.Items scope) = subst (Each P) (occurrences-if level.Items scope arms other) bound in
+      subst (Each HasEach) (sym (entered-if arms other scope))
+      (each_both HasEach (entered_by_arms (map (λ a. (a, entered_by_arm a)) arms) scope) (entered_in other scope)
+      (arms_bound arms in_arms scope (each_left P (in_same_scope (map in_arm arms) level.Items scope) (in_block other level.Items scope) parts))
+      (block_bound other in_other scope (each_right P (in_same_scope (map in_arm arms) level.Items scope) (in_block other level.Items scope) parts))))
+      (λ l inside scope bound. subst (Each HasEach) (sym (entered-loop l scope)) (inside_bound level.Items scope l (subst (Each P) (loop_is level.Items l scope) bound), tt))
 
-regions_bound : (scope : Scope) (regions : List Loop) → Each IsBound (in_regions regions scope) → Each HasBoundNames (flat_map (entered_in_region scope) regions)
-regions_bound scope [] bound = tt
-regions_bound scope (l ∷ regions) bound =
-    each_both HasBoundNames (entered_in_region scope l) (flat_map (entered_in_region scope) regions)
-    (block_bound l.body (each_keeps l.body) (with_bound scope l.name (variable_at level.Outside)) (inside_bound level.Outside scope l (each_left IsBound (in_loop l level.Outside scope) (in_regions regions scope) bound)))
-    (regions_bound scope regions (each_right IsBound (in_loop l level.Outside scope) (in_regions regions scope) bound))
+  each_keeps : (stmts : List Stmt) → Each Keeps stmts
+  each_keeps [] = tt
+  each_keeps (s ∷ stmts) = (keeps s, each_keeps stmts)
+
+  -- what holds of each occurrence in the regions holds of each in the bodies that are entered there
+  pub regions_bound : (scope : Scope) (regions : List Loop) → Each P (in_regions regions scope) → Each HasEach (flat_map (entered_in_region scope) regions)
+  regions_bound scope [] bound = tt
+  regions_bound scope (l ∷ regions) bound =
+      each_both HasEach (entered_in_region scope l) (flat_map (entered_in_region scope) regions)
+      (block_bound l.body (each_keeps l.body) (with_bound scope l.name (variable_at level.Outside)) (inside_bound level.Outside scope l (each_left P (in_loop l level.Outside scope) (in_regions regions scope) bound)))
+      (regions_bound scope regions (each_right P (in_loop l level.Outside scope) (in_regions regions scope) bound))
+
+  pub program_bound : (program : Program) → Each P (occurrences_of program) → Each HasEach (entered_of program)
+  program_bound program each = regions_bound (declared_scope program) program.regions (each_right P (in_decls program.decls (unbound (length program.names))) (in_regions program.regions (declared_scope program)) each)
 
 -- where no line breaks a rule, no occurrence does
-none_where : (breaks : Occurrence → Bool) (o : Occurrence) (os : List Occurrence) → lines_where line_of breaks (o ∷ os) ≡ [] → (breaks o ≡ false) × (lines_where line_of breaks os ≡ [])
+pub none_where : (breaks : Occurrence → Bool) (o : Occurrence) (os : List Occurrence) → lines_where line_of breaks (o ∷ os) ≡ [] → (breaks o ≡ false) × (lines_where line_of breaks os ≡ [])
 none_where breaks o os none = by (breaks o) refl none
   where
     by : (b : Bool) → breaks o ≡ b → map line_of (if b then o ∷ filter breaks os else filter breaks os) ≡ [] → (breaks o ≡ false) × (lines_where line_of breaks os ≡ [])
@@ -178,5 +186,4 @@ all_bound (o ∷ os) once known constant variables scheduled =
 
 pub bodies_bound : (program : Program) → lines_redeclared program ≡ [] → lines_unknown program ≡ [] → lines_const_written program ≡ [] → lines_loop_variable_assigned program ≡ [] → lines_scheduler_scalar_assigned program ≡ [] → Each HasBoundNames (entered_of program)
 bodies_bound program once known constant variables scheduled =
-    regions_bound (declared_scope program) program.regions
-    (each_right IsBound (in_decls program.decls (unbound (length program.names))) (in_regions program.regions (declared_scope program)) (all_bound (occurrences_of program) once known constant variables scheduled))
+    program_bound IsBound program (all_bound (occurrences_of program) once known constant variables scheduled)

@@ -10,15 +10,15 @@ use Rattle.nest_syntax.specs.declared.tree.Expr.TheVariants as expr
 use Rattle.nest_syntax.specs.declared.tree.Expr.TheVariants.{rolls-Binary, rolls-Choice}
 use Rattle.nest_syntax.specs.declared.tree.Arm.{Arm}
 use Rattle.nest_syntax.specs.declared.tree.Loop.{Loop}
-use Rattle.nest_syntax.specs.declared.tree.Stmt.{Stmt}
+use Rattle.nest_syntax.specs.declared.tree.Stmt.{Stmt, roll-Stmt}
 use Rattle.nest_syntax.specs.declared.tree.Stmt.TheOpen.{Stmt-F}
-use Rattle.nest_syntax.specs.declared.tree.Stmt.TheFolds.{fold-roll-Stmt, fold_out-Arm, fold_out-Loop}
+use Rattle.nest_syntax.specs.declared.tree.Stmt.TheFolds.{map-Stmt, fold-roll-Stmt, fold_out-Arm, fold_out-Loop}
 use Rattle.nest_syntax.specs.declared.tree.Stmt.TheVariants as stmt
-use Rattle.nest_syntax.specs.declared.tree.Stmt.TheVariants.{rolls-Declare, rolls-Assign, rolls-Write, rolls-If}
+use Rattle.nest_syntax.specs.declared.tree.Stmt.TheVariants.{rolls-Declare, rolls-Assign, rolls-Write, rolls-If, rolls-Loop}
 use Rattle.nest_scope.specs.declared.occurrences.Level.{Level}
 use Rattle.nest_scope.specs.declared.occurrences.Action.TheVariants as action
 use Rattle.nest_scope.specs.declared.occurrences.Occurrence.{Occurrence}
-use Rattle.nest_scope.specs.Occurrences.{Scope, Walk, Listing, bound, with_bound, inner, variable_at, occurrence, read_node, read_in, in_same_scope, stmt_node, arm_node, loop_node, in_stmt, in_arm, in_loop, in_block}
+use Rattle.nest_scope.specs.Occurrences.{Scope, Walk, Listing, bound, with_bound, inner, declared_at, variable_at, occurrence, read_node, read_in, in_same_scope, stmt_node, arm_node, loop_node, in_stmt, in_arm, in_loop, in_block}
 
 -- the names that an expression reads
 module _ (line : Line) (level : Level) (scope : Scope) where
@@ -57,3 +57,23 @@ module _ (level : Level) (scope : Scope) where
   pub occurrences-loop : (l : Loop) → in_loop l level scope ≡ occurrence l.line level action.Declared (bound scope l.name)
       ∷ (read_in l.line level scope l.low ++ (read_in l.line level (with_bound scope l.name (variable_at level)) l.high ++ in_block l.body (inner level) (with_bound scope l.name (variable_at level))))
   occurrences-loop l = ap (λ (w : Listing). w level scope) (fold_out-Loop Walk Listing Listing stmt_node arm_node loop_node l)
+
+-- the scope behind a statement
+module _ (level : Level) (scope : Scope) where
+  behind-node : (x : Stmt-F Stmt Arm Loop) → (in_stmt (roll-Stmt x) level scope).behind ≡ (stmt_node (map-Stmt Stmt Arm Loop Walk Listing Listing in_stmt in_arm in_loop x) level scope).behind
+  behind-node x = ap (λ (p : Walk). (p level scope).behind) (fold-roll-Stmt Walk Listing Listing stmt_node arm_node loop_node x)
+
+  pub behind-declare : (line : Line) (name : ℕ) (e : Expr) → (in_stmt (stmt.Declare line name e) level scope).behind ≡ with_bound scope name (declared_at level)
+  behind-declare line name e = ap (λ s. (in_stmt s level scope).behind) (sym (rolls-Declare line name e)) ∙ behind-node (Stmt-F.Declare line name e)
+
+  pub behind-assign : (line : Line) (name : ℕ) (o : Op) (e : Expr) → (in_stmt (stmt.Assign line name o e) level scope).behind ≡ scope
+  behind-assign line name o e = ap (λ s. (in_stmt s level scope).behind) (sym (rolls-Assign line name o e)) ∙ behind-node (Stmt-F.Assign line name o e)
+
+  pub behind-write : (line : Line) (array : ℕ) (place : Expr) (o : Op) (e : Expr) → (in_stmt (stmt.Write line array place o e) level scope).behind ≡ scope
+  behind-write line array place o e = ap (λ s. (in_stmt s level scope).behind) (sym (rolls-Write line array place o e)) ∙ behind-node (Stmt-F.Write line array place o e)
+
+  pub behind-if : (arms : List Arm) (other : List Stmt) → (in_stmt (stmt.If arms other) level scope).behind ≡ scope
+  behind-if arms other = ap (λ s. (in_stmt s level scope).behind) (sym (rolls-If arms other)) ∙ behind-node (Stmt-F.If arms other)
+
+  pub behind-loop : (l : Loop) → (in_stmt (stmt.Loop l) level scope).behind ≡ scope
+  behind-loop l = ap (λ s. (in_stmt s level scope).behind) (sym (rolls-Loop l)) ∙ behind-node (Stmt-F.Loop l)

@@ -4,3 +4,4 @@ pub mod Equations
 pub mod Nodes
 pub mod Steps
 pub mod Entered
+pub mod Around

@@ -1,8 +1,8 @@
 -- The lowest lines that are noted are those of the lists of the rules.
 use Rattle.std.proofs.Common.{◌≡◌, Bool, Option, List, [], ◌∷◌, ◌++◌, refl, sym, ap, ◌∙◌}
 use Rattle.nest_syntax.specs.declared.names.Line.{Line}
-use Rattle.lowest_line.specs.Lowest.{lower_if, lower_of, lines_where}
-use Rattle.lowest_line.proofs.Lists.{lower_of-where}
+use Rattle.nest_syntax.specs.Lowest.{lower_if, lower_of, lines_where}
+use Rattle.nest_syntax.proofs.LowerLists.{lower_of-where}
 use Rattle.nest_scope.specs.declared.occurrences.Occurrence.{Occurrence}
 use Rattle.nest_scope.specs.declared.breaches.ScopeBreaches.{ScopeBreaches}
 use Rattle.nest_scope.specs.Rules.{line_of, redeclares, uses_unknown, writes_const, assigns_loop_variable, assigns_scheduler_scalar}

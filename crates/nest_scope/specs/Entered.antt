@@ -1,6 +1,6 @@
 -- The bodies of a program, each with the level and the scope in which it stands: for a body that a loop invokes, the
 -- loop's variable is bound there. The names that the body uses are bound as its occurrences from there say.
-use Rattle.std.specs.Prelude.{◌≡◌, false, List, [], ◌∷◌, ◌++◌, map, length}
+use Rattle.std.specs.Prelude.{◌≡◌, Bool, true, false, List, [], ◌∷◌, ◌++◌, map, length}
 use Rattle.std.specs.List.{flat_map}
 use Rattle.nest_syntax.specs.declared.tree.Arm.{Arm}
 use Rattle.nest_syntax.specs.declared.tree.Loop.{Loop}
@@ -11,10 +11,12 @@ use Rattle.nest_syntax.specs.declared.tree.Stmt.TheFolds.{para-Stmt, para-Arm}
 use Rattle.nest_syntax.specs.declared.tree.Program.{Program}
 use Rattle.nest_syntax.specs.Among.{Each}
 use Rattle.nest_syntax.specs.Shape.{Body, body_of_loop, body_of_write, invoked_by}
+use Rattle.nest_scope.specs.declared.occurrences.Binding.{Binding}
+use Rattle.nest_scope.specs.declared.occurrences.Binding.TheVariants as binding
 use Rattle.nest_scope.specs.declared.occurrences.Level.{Level}
 use Rattle.nest_scope.specs.declared.occurrences.Level.TheVariants as level
 use Rattle.nest_scope.specs.declared.occurrences.Occurrence.{Occurrence}
-use Rattle.nest_scope.specs.Occurrences.{Scope, with_bound, inner, variable_at, in_stmt, in_block, behind_decls, unbound}
+use Rattle.nest_scope.specs.Occurrences.{Scope, with_bound, variable_at, in_stmt, in_block, behind_decls, unbound}
 use Rattle.nest_scope.specs.Rules.{redeclares, uses_unknown, writes_const, assigns_loop_variable, assigns_scheduler_scalar, lines_redeclared, lines_unknown, lines_const_written, lines_loop_variable_assigned, lines_scheduler_scalar_assigned}
 
 -- a body as it is entered
@@ -71,6 +73,12 @@ declared_scope program = behind_decls program.decls (unbound (length program.nam
 -- the bodies of a program in textual order
 abbrev pub entered_of : Program → List Entered
 entered_of program = flat_map (entered_in_region (declared_scope program)) program.regions
+
+-- whether a name is bound to a scalar of the scheduler
+abbrev pub is_schedulers : Binding → Bool
+is_schedulers binding.SchedulerScalar = true
+is_schedulers binding.RegionVariable = true
+is_schedulers to = false
 
 -- A name is bound to what it is used as: a use is of a scalar or an array in scope, a write is of an array that isn't
 -- `const`, an assignment is of no loop's variable and, in a body, of no scheduler scalar, and a declaration is of a name

@@ -1,6 +1,7 @@
--- The lowest lines that break each rule, over occurrences that come one by one.
+-- No caller of `scope_breaches` needs this. The lowest lines that break each rule, over occurrences that come one by
+-- one.
 use Rattle.std.specs.Prelude.{None, List, [], ◌∷◌}
-use Rattle.lowest_line.specs.Lowest.{lower_if}
+use Rattle.nest_syntax.specs.Lowest.{lower_if}
 use Rattle.nest_scope.specs.declared.occurrences.Occurrence.{Occurrence}
 use Rattle.nest_scope.specs.declared.breaches.ScopeBreaches.{ScopeBreaches}
 use Rattle.nest_scope.specs.Rules.{redeclares, uses_unknown, writes_const, assigns_loop_variable, assigns_scheduler_scalar}

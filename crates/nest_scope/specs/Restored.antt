@@ -1,4 +1,4 @@
--- Bindings that are put back at the end of a block.
+-- No caller of `scope_breaches` needs this. Bindings that are put back at the end of a block.
 use Rattle.std.specs.Prelude.{ℕ, List, [], ◌∷◌}
 use Rattle.nest_scope.specs.declared.occurrences.Binding.{Binding}
 use Rattle.nest_scope.specs.Occurrences.{Scope, with_bound}

@@ -2,7 +2,7 @@
 use Rattle.std.specs.Prelude.{Bool, true, false, List}
 use Rattle.nest_syntax.specs.declared.names.Line.{Line}
 use Rattle.nest_syntax.specs.declared.tree.Program.{Program}
-use Rattle.lowest_line.specs.Lowest.{lines_where}
+use Rattle.nest_syntax.specs.Lowest.{lines_where}
 use Rattle.nest_scope.specs.declared.occurrences.Binding.{Binding}
 use Rattle.nest_scope.specs.declared.occurrences.Binding.TheVariants as binding
 use Rattle.nest_scope.specs.declared.occurrences.Level.{Level}

@@ -1,10 +1,8 @@
 ghost use Rattle.std.specs.Prelude.{◌≡◌};
-ghost use Rattle.lowest_line.specs.Lowest.{lower_if};
 ghost use Rattle.nest_scope.specs.Noted.{noted, none_noted};
 
 use crate::occurrences::Occurrence;
-use lowest_line::Lowest;
-use nest_syntax::Line;
+use nest_syntax::{Line, Lowest};
 use std::marker::Model;
 
 /// The lowest line that breaks each of the rules on names, none where the rule holds.
@@ -57,19 +55,14 @@ impl Found {
         ensures { self.new ≡ noted self.old occurrence }
     {
         let line = occurrence.line;
-        note_where(occurrence.redeclares(), &mut self.redeclared, line);
-        note_where(occurrence.uses_unknown(), &mut self.unknown, line);
-        note_where(occurrence.writes_const(), &mut self.const_written, line);
-        note_where(
-            occurrence.assigns_loop_variable(),
-            &mut self.loop_variable_assigned,
-            line,
-        );
-        note_where(
-            occurrence.assigns_scheduler_scalar(),
-            &mut self.scheduler_scalar_assigned,
-            line,
-        );
+        self.redeclared.note_where(occurrence.redeclares(), line);
+        self.unknown.note_where(occurrence.uses_unknown(), line);
+        self.const_written
+            .note_where(occurrence.writes_const(), line);
+        self.loop_variable_assigned
+            .note_where(occurrence.assigns_loop_variable(), line);
+        self.scheduler_scalar_assigned
+            .note_where(occurrence.assigns_scheduler_scalar(), line);
     }
 
     pub(crate) fn breaches(&self) -> ScopeBreaches
@@ -82,13 +75,5 @@ impl Found {
             loop_variable_assigned: self.loop_variable_assigned.line(),
             scheduler_scalar_assigned: self.scheduler_scalar_assigned.line(),
         }
-    }
-}
-
-fn note_where(breaks: bool, found: &mut Lowest, line: Line)
-    ensures { found.new ≡ lower_if breaks found.old line }
-{
-    if breaks {
-        found.note(line);
     }
 }

@@ -1,5 +1,5 @@
 ghost use Rattle.std.specs.Prelude.{◌≡◌, IfOk, OnOk, map};
-ghost use Rattle.lowest_line.specs.Lowest.{IsLowestOf};
+ghost use Rattle.nest_syntax.specs.Lowest.{IsLowestOf};
 ghost use Rattle.nest_scope.specs.declared.occurrences.Level.TheVariants as level;
 ghost use Rattle.nest_scope.specs.Occurrences.{bound, occurrence, read_in, in_stmt, in_arm, in_loop, in_block, in_decl, in_decls, in_regions, behind_decls, in_same_scope};
 ghost use Rattle.nest_scope.specs.Rules.{lines_redeclared, lines_unknown, lines_const_written, lines_loop_variable_assigned, lines_scheduler_scalar_assigned};

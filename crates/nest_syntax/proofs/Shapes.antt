@@ -1,19 +1,21 @@
 -- The items of each kind of statement, and that the events of a course number the bodies of the shape.
-use Rattle.std.proofs.Common.{◌≡◌, ℕ, List, [], ◌∷◌, ◌++◌, map, refl, sym, ap, ◌∙◌, subst, append_assoc}
+use Rattle.std.proofs.Common.{◌≡◌, ℕ, List, [], ◌∷◌, ◌++◌, map, refl, sym, ap, ◌∙◌, append_assoc}
 use Rattle.std.specs.List.{flat_map}
 use Rattle.nest_syntax.specs.declared.names.Line.{Line}
 use Rattle.nest_syntax.specs.declared.operators.Op.{Op}
 use Rattle.nest_syntax.specs.declared.tree.Expr.{Expr}
-use Rattle.nest_syntax.specs.declared.tree.Arm.{Arm, roll-Arm, roll-out-Arm, out-Arm}
-use Rattle.nest_syntax.specs.declared.tree.Loop.{Loop, roll-Loop, roll-out-Loop, out-Loop}
-use Rattle.nest_syntax.specs.declared.tree.Stmt.{Stmt, roll-Stmt}
-use Rattle.nest_syntax.specs.declared.tree.Stmt.TheOpen.{Stmt-F, Arm-F, Loop-F}
-use Rattle.nest_syntax.specs.declared.tree.Stmt.TheFolds.{map-Stmt, map-Arm, map-Loop, ind-Loop, para-Loop, para-roll-Stmt, para-roll-Arm, para-roll-Loop}
+use Rattle.nest_syntax.specs.declared.tree.Arm.{Arm, roll-out-Arm, out-Arm}
+use Rattle.nest_syntax.specs.declared.tree.Loop.{Loop}
+use Rattle.nest_syntax.specs.declared.tree.Stmt.{Stmt}
+use Rattle.nest_syntax.specs.declared.tree.Stmt.TheOpen.{Stmt-F}
+use Rattle.nest_syntax.specs.declared.tree.Stmt.TheFolds.{para-roll-Stmt, para-roll-Arm}
 use Rattle.nest_syntax.specs.declared.tree.Stmt.TheVariants as stmt
 use Rattle.nest_syntax.specs.declared.tree.Stmt.TheVariants.{rolls-Declare, rolls-Assign, rolls-Write, rolls-If, rolls-Loop}
 use Rattle.nest_syntax.specs.Shape.{Entry, Plain, Declares, Invokes, Body, body_of_loop, body_of_write, items_node, arm_items_node, loop_items_node, items, items_in_arm, items_of, invoked_in_region, statements_of_each, bodies_in}
-use Rattle.nest_syntax.specs.Course.{Setting, Item, Tested, Looped, in_order, chosen, item_node, tested_node, looped_node, item_of, tested_of, looped_of, region_of}
-use Rattle.nest_syntax.proofs.Equations.{looped-is}
+use Rattle.nest_syntax.specs.Among.{Each}
+use Rattle.nest_syntax.specs.Course.{Setting, Item, Tested, Looped, in_order, chosen, item_of, tested_of, looped_of, region_of}
+use Rattle.nest_syntax.proofs.Equations.{item-declare, item-assign, item-write, item-if, item-loop, looped-is, tested-is}
+use Rattle.nest_syntax.proofs.Inductions.{stmt_induction}
 
 pub items_beside : (stmts : List Stmt) → flat_map (λ (s : Stmt × List Entry). s.1) (map (λ s. (s, items s)) stmts) ≡ items_of stmts
 items_beside [] = refl
@@ -65,89 +67,47 @@ module _ (setting : Setting) where
   abbrev SameItem : Stmt → Type 0
   SameItem s = (item_of setting s).bodies ≡ bodies_in (items s)
 
-  abbrev SameTested : Arm → Type 0
-  SameTested r = (tested_of setting r).bodies ≡ bodies_in (items_in_arm r)
-
-  abbrev entries_in_loop : Loop → List Entry
-  entries_in_loop = para-Loop (List Entry) (List Entry) (List Entry) items_node arm_items_node loop_items_node
-
-  abbrev SameLooped : Loop → Type 0
-  SameLooped l = (looped_of setting l).region.bodies ≡ bodies_in (entries_in_loop l)
-
-  abbrev A_stmt : Type 0
-  A_stmt = (s : Stmt) × SameItem s
-
-  abbrev An_arm : Type 0
-  An_arm = (r : Arm) × SameTested r
-
-  abbrev A_loop : Type 0
-  A_loop = (l : Loop) × SameLooped l
-
   abbrev items_at : List Stmt → Item
-  items_at stmts = in_order (map (λ (p : Stmt × Item). p.1) (map (λ q. (q, item_of setting q)) stmts))
-
-  abbrev entries_at : List Stmt → List Entry
-  entries_at stmts = flat_map (λ (p : Stmt × List Entry). p.1) (map (λ q. (q, items q)) stmts)
+  items_at stmts = in_order (map (λ (p : Stmt × Item). p.1) (map (λ s. (s, item_of setting s)) stmts))
 
   abbrev arms_at : List Arm → Item → Item
-  arms_at arms other = chosen (map (λ (p : Arm × Tested). p.1) (map (λ q. (q, tested_of setting q)) arms)) other
+  arms_at arms other = chosen (map (λ (p : Arm × Tested). p.1) (map (λ a. (a, tested_of setting a)) arms)) other
 
-  abbrev arm_entries_at : List Arm → List Entry
-  arm_entries_at arms = flat_map (λ (p : Arm × List Entry). p.1) (map (λ q. (q, items_in_arm q)) arms)
+  items_same : (stmts : List Stmt) → Each SameItem stmts → (items_at stmts).bodies ≡ bodies_in (items_of stmts)
+  items_same [] each = refl
+  items_same (s ∷ stmts) each =
+      ap (λ bodies. bodies ++ (items_at stmts).bodies) each.0
+      ∙ ap (λ bodies. bodies_in (items s) ++ bodies) (items_same stmts each.1)
+      ∙ sym (bodies_in-append (items s) (items_of stmts))
 
-  items_same : (stmts : List A_stmt) → (items_at (map (λ q. q.0) stmts)).bodies ≡ bodies_in (entries_at (map (λ q. q.0) stmts))
-  items_same [] = refl
-  items_same (q ∷ qs) =
-      ap (λ bodies. bodies ++ (items_at (map (λ q. q.0) qs)).bodies) q.1
-      ∙ ap (λ bodies. bodies_in (items q.0) ++ bodies) (items_same qs)
-      ∙ sym (bodies_in-append (items q.0) (entries_at (map (λ q. q.0) qs)))
+  tested_same : (a : Arm) → Each SameItem a.body → (tested_of setting a).bodies ≡ bodies_in (items_in_arm a)
+  tested_same a each = ap (λ (t : Tested). t.bodies) (tested-is setting a) ∙ items_same a.body each ∙ ap bodies_in (sym (items_in_arm-is a))
 
-  arms_same : (arms : List An_arm) (x : Item) (entries : List Entry) → x.bodies ≡ bodies_in entries → (arms_at (map (λ q. q.0) arms) x).bodies ≡ bodies_in (arm_entries_at (map (λ q. q.0) arms) ++ entries)
-  arms_same [] x entries same = same
-  arms_same (q ∷ qs) x entries same =
-      ap (λ bodies. bodies ++ (arms_at (map (λ q. q.0) qs) x).bodies) q.1
-      ∙ ap (λ bodies. bodies_in (items_in_arm q.0) ++ bodies) (arms_same qs x entries same)
-      ∙ sym (bodies_in-append (items_in_arm q.0) (arm_entries_at (map (λ q. q.0) qs) ++ entries))
-      ∙ ap bodies_in (sym (append_assoc (items_in_arm q.0) (arm_entries_at (map (λ q. q.0) qs)) entries))
+  arms_same : (arms : List Arm) → Each (λ (a : Arm). Each SameItem a.body) arms → (other : Item) (entries : List Entry) → other.bodies ≡ bodies_in entries → (arms_at arms other).bodies ≡ bodies_in (flat_map items_in_arm arms ++ entries)
+  arms_same [] each other entries same = same
+  arms_same (a ∷ arms) each other entries same =
+      ap (λ bodies. bodies ++ (arms_at arms other).bodies) (tested_same a each.0)
+      ∙ ap (λ bodies. bodies_in (items_in_arm a) ++ bodies) (arms_same arms each.1 other entries same)
+      ∙ sym (bodies_in-append (items_in_arm a) (flat_map items_in_arm arms ++ entries))
+      ∙ ap bodies_in (sym (append_assoc (items_in_arm a) (flat_map items_in_arm arms) entries))
 
   invocation_same : (l : Loop) → (looped_of setting l).invocation.bodies ≡ l.body ∷ []
   invocation_same l = ap (λ (x : Looped). x.invocation.bodies) (looped-is setting l) ∙ ap (λ body. body ∷ []) (firsts (item_of setting) l.body)
 
-  abbrev node_of : Stmt-F Stmt Arm Loop → Item
-  node_of x = item_node setting (map-Stmt Stmt Arm Loop (Stmt × Item) (Arm × Tested) (Loop × Looped) (λ q. (q, item_of setting q)) (λ q. (q, tested_of setting q)) (λ q. (q, looped_of setting q)) x)
+  item_same : (s : Stmt) → SameItem s
+  item_same = stmt_induction SameItem
+      (λ line name e. ap (λ (i : Item). i.bodies) (item-declare setting line name e) ∙ ap bodies_in (sym (items-declare line name e)))
+      (λ line name o e. ap (λ (i : Item). i.bodies) (item-assign setting line name o e) ∙ ap bodies_in (sym (items-assign line name o e)))
+      (λ line name p o e. ap (λ (i : Item). i.bodies) (item-write setting line name p o e) ∙ ap bodies_in (sym (items-write line name p o e)))
+      (λ arms other in_arms in_other. ap (λ (i : Item). i.bodies) (item-if setting arms other) ∙ arms_same arms in_arms (items_at other) (items_of other) (items_same other in_other) ∙ ap bodies_in (sym (items-if arms other)))
+      (λ l inside. ap (λ (i : Item). i.bodies) (item-loop setting l) ∙ invocation_same l ∙ ap bodies_in (sym (items-loop l)))
 
-  abbrev entries_of : Stmt-F Stmt Arm Loop → List Entry
-  entries_of x = items_node (map-Stmt Stmt Arm Loop (Stmt × List Entry) (Arm × List Entry) (Loop × List Entry) (λ q. (q, items q)) (λ q. (q, items_in_arm q)) (λ q. (q, entries_in_loop q)) x)
-
-  layer : (y : Stmt-F A_stmt An_arm A_loop) → (node_of (map-Stmt A_stmt An_arm A_loop Stmt Arm Loop (λ q. q.0) (λ q. q.0) (λ q. q.0) y)).bodies ≡ bodies_in (entries_of (map-Stmt A_stmt An_arm A_loop Stmt Arm Loop (λ q. q.0) (λ q. q.0) (λ q. q.0) y))
-  layer (Stmt-F.Declare line name e) = refl
-  layer (Stmt-F.Assign line name o e) = refl
-  layer (Stmt-F.Write line name place o e) = refl
-  layer (Stmt-F.If arms other) = arms_same arms (items_at (map (λ q. q.0) other)) (entries_at (map (λ q. q.0) other)) (items_same other)
-  layer (Stmt-F.Loop l) = invocation_same l.0
-
-  stmt_step : (x : Stmt-F Stmt Arm Loop) (y : Stmt-F A_stmt An_arm A_loop) → map-Stmt A_stmt An_arm A_loop Stmt Arm Loop (λ q. q.0) (λ q. q.0) (λ q. q.0) y ≡ x → SameItem (roll-Stmt x)
-  stmt_step x y is =
-      subst (λ (i : Item). i.bodies ≡ bodies_in (items (roll-Stmt x))) (sym (para-roll-Stmt Item Tested Looped (item_node setting) (tested_node setting) (looped_node setting) x))
-      (subst (λ es. (node_of x).bodies ≡ bodies_in es) (sym (para-roll-Stmt (List Entry) (List Entry) (List Entry) items_node arm_items_node loop_items_node x))
-      (subst (λ z. (node_of z).bodies ≡ bodies_in (entries_of z)) is (layer y)))
-
-  arm_step : (x : Arm-F Stmt Arm Loop) (y : Arm-F A_stmt An_arm A_loop) → map-Arm A_stmt An_arm A_loop Stmt Arm Loop (λ q. q.0) (λ q. q.0) (λ q. q.0) y ≡ x → SameTested (roll-Arm x)
-  arm_step x y is =
-      subst (λ (t : Tested). t.bodies ≡ bodies_in (items_in_arm (roll-Arm x))) (sym (para-roll-Arm Item Tested Looped (item_node setting) (tested_node setting) (looped_node setting) x))
-      (subst (λ es. (items_at x.body).bodies ≡ bodies_in es) (sym (para-roll-Arm (List Entry) (List Entry) (List Entry) items_node arm_items_node loop_items_node x))
-      (subst (λ z. (items_at z.body).bodies ≡ bodies_in (entries_at z.body)) is (items_same y.body)))
-
-  loop_step : (x : Loop-F Stmt Arm Loop) (y : Loop-F A_stmt An_arm A_loop) → map-Loop A_stmt An_arm A_loop Stmt Arm Loop (λ q. q.0) (λ q. q.0) (λ q. q.0) y ≡ x → SameLooped (roll-Loop x)
-  loop_step x y is =
-      subst (λ (l : Looped). l.region.bodies ≡ bodies_in (entries_in_loop (roll-Loop x))) (sym (para-roll-Loop Item Tested Looped (item_node setting) (tested_node setting) (looped_node setting) x))
-      (subst (λ es. (items_at x.body).bodies ≡ bodies_in es) (sym (para-roll-Loop (List Entry) (List Entry) (List Entry) items_node arm_items_node loop_items_node x))
-      (subst (λ z. (items_at z.body).bodies ≡ bodies_in (entries_at z.body)) is (items_same y.body)))
+  each_same : (stmts : List Stmt) → Each SameItem stmts
+  each_same [] = tt
+  each_same (s ∷ stmts) = (item_same s, each_same stmts)
 
   region_same : (l : Loop) → (region_of setting l).bodies ≡ statements_of_each (invoked_in_region l)
-  region_same l =
-      ind-Loop SameItem SameTested SameLooped stmt_step arm_step loop_step l
-      ∙ ap bodies_in (ap entries_in_loop (sym (roll-out-Loop l)) ∙ para-roll-Loop (List Entry) (List Entry) (List Entry) items_node arm_items_node loop_items_node (out-Loop l) ∙ items_beside l.body)
+  region_same l = ap (λ (x : Looped). x.region.bodies) (looped-is setting l) ∙ items_same l.body (each_same l.body)
 
   -- the bodies that the events of regions number are those of the shape
   pub regions_same : (regions : List Loop) → (in_order (map (region_of setting) regions)).bodies ≡ statements_of_each (flat_map invoked_in_region regions)

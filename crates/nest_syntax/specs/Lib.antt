@@ -1,4 +1,5 @@
 pub mod Among
+pub mod Lowest
 pub mod Words
 pub mod Arrays
 pub mod Value

@@ -1,6 +1,6 @@
 -- The locals of a body: the names that it declares, and those of the loops in it. The variable of the invocation isn't
 -- one of them. An iteration begins with 0 for each local, whatever a scalar of the scheduler with the same name has.
-use Rattle.std.specs.Prelude.{ℕ, ℤ, pos, Bool, true, false, if◌then◌else◌, List, [], ◌∷◌, ◌++◌, map}
+use Rattle.std.specs.Prelude.{ℕ, ℤ, pos, Bool, false, if◌then◌else◌, List, [], ◌∷◌, ◌++◌, map}
 use Rattle.std.specs.List.{concat}
 use Rattle.nest_syntax.specs.declared.tree.Arm.{Arm}
 use Rattle.nest_syntax.specs.declared.tree.Loop.{Loop}

@@ -1,5 +1,4 @@
-//! Tables of runs: of the top call over streams in memory, of the streams, of the engine and of the driver, and of the
-//! claims of iterations.
+//! Tables of runs: of the streams, of the engine and of the driver, and of the claims of iterations.
 //!
 //! Here are tests alone, over crates that are proved without them. Each job is read from a text.
 #![tactic(auto)]
@@ -16,7 +15,5 @@ mod nests;
 mod relay;
 #[cfg(test)]
 mod streams;
-#[cfg(test)]
-mod top;
 #[cfg(test)]
 mod turns;

@@ -3,9 +3,9 @@ use Rattle.std.proofs.Common.{◌≡◌, ℕ, zero, suc, ◌+◌, ℤ, Option, S
 use Rattle.std.proofs.lemmas.Option.{slice_get_past}
 use Rattle.std.specs.Option.{option_and_then, option_map_or}
 use Rattle.nest_syntax.specs.Reads.{on_words}
-use Rattle.nest_syntax.specs.Course.{Purpose, Course}
+use Rattle.nest_syntax.specs.Course.{Course}
 use Rattle.nest_syntax.specs.Course as course
-use Rattle.nest_syntax.specs.Outcome.{Ending, Done, TrappedAt, place_of_trap, Event as Passed, Computes, Drains, Iterates, Closes, Ends, completed, ending_from, events_from, iterations_among}
+use Rattle.nest_syntax.specs.Outcome.{Done, Event as Passed, Computes, Drains, Iterates, Closes, Ends, completed, ending_from, iterations_among}
 use Rattle.nest_syntax.specs.Outcome as outcome_of
 use Rattle.settle_law.specs.Courses.{Trap, Event, End, Iterate, Nest, events_left, events, outcome, iteration_at, reached, trap_of, Follows, Behind, Onward, AtEvent, CursorsBegin}
 use Rattle.settle_law.specs.Tasks.{System}

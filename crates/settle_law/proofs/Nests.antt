@@ -9,7 +9,7 @@ use Rattle.nest_syntax.specs.Arrays.{arrays_of, sizes_of}
 use Rattle.nest_syntax.specs.Turn.{Turn}
 use Rattle.nest_syntax.specs.Reads.{Ended, Completed, Stopped, on_words, accesses_on}
 use Rattle.nest_syntax.specs.Course.{Course, End, Failed, Scalar, Drain, Iterate, Close, bodies_of}
-use Rattle.nest_syntax.specs.Outcome.{Ending, TrappedAt, place_of_trap, completed, turn_in, ending_from, events_from, iterations_among, iteration_turn, accesses_of, after as program_after}
+use Rattle.nest_syntax.specs.Outcome.{TrappedAt, place_of_trap, completed, turn_in, ending_from, events_from, iterations_among, iteration_turn, accesses_of, after as program_after}
 use Rattle.nest_syntax.specs.Outcome as outcome_of
 use Rattle.settle_law.specs.Trees.{Finished, turn}
 use Rattle.settle_law.specs.Cuts.{cut, plain, HoldsFixed}

@@ -3,7 +3,7 @@ use Rattle.std.proofs.Common.{◌≡◌, ℕ, ℤ, pos, Bool, true, false, if◌
 use Rattle.std.specs.Option.{option_map_or}
 use Rattle.nest_syntax.specs.Arrays.{Array, sizes_of, is_fixed, word_at}
 use Rattle.nest_syntax.specs.Turn.{Turn, Finished, Trapped, Load, Store, Op, Go}
-use Rattle.nest_syntax.specs.Reads.{Reading, Finishes, Traps, More, on_reads, with_access}
+use Rattle.nest_syntax.specs.Reads.{Reading, Traps, More, on_reads, with_access}
 use Rattle.nest_syntax.specs.Reads as reads
 use Rattle.settle_law.specs.Trees.{Tree}
 use Rattle.settle_law.specs.Trees as tree

@@ -8,7 +8,7 @@ use Rattle.nest_syntax.specs.Outcome.{Done, TrappedAt, place_of_trap, Computes, 
 use Rattle.nest_syntax.specs.Turn.{Turn}
 use Rattle.nest_syntax.specs.Turn as turn
 use Rattle.settle_law.specs.Trees.{Tree, Finished, Load, Store}
-use Rattle.settle_law.specs.Cuts.{Cut, cut, plain}
+use Rattle.settle_law.specs.Cuts.{cut, plain}
 use Rattle.settle_law.specs.Cuts as cut
 use Rattle.settle_law.specs.Traces.{Access, Read, Write, settle, Replays, InOrder, part, IsFinished, Fits, Makes}
 use Rattle.settle_law.specs.Courses.{Nest, Event, End, Scalar, Iterate, Close, events, reached, outcome, Follows}

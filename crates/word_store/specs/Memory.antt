@@ -2,12 +2,17 @@
 use Rattle.std.specs.Prelude.{◌≡◌, ℕ, ◌≤◌, ℤ, pos, FitsSigned, Option, List, length, sum, take, drop, replicate, slice_index_or}
 use Rattle.std.specs.Int.{w64}
 use Rattle.std.specs.Option.{option_map, option_map_or}
-use Rattle.nest_syntax.specs.Arrays.{place_of, word_number, word_at, with_word}
+use Rattle.nest_syntax.specs.declared.tree.Decl.{Decl}
+use Rattle.nest_syntax.specs.Arrays.{arrays_of, sizes_of, place_of, word_number, word_at, with_word}
 
 -- how many words each array has, and the words of all arrays, one array after another in order of declaration
 pub record Memory : Type 0 where
   pub sizes : List ℕ
   pub words : List ℤ
+
+-- the layout of a memory is that of declarations: it has the arrays that they declare, each with as many words
+abbrev pub HasLayout : Memory → List Decl → Type 0
+HasLayout memory decls = memory.sizes ≡ sizes_of (arrays_of decls)
 
 -- the most words that all arrays may have together
 abbrev pub most_words : ℕ

@@ -58,6 +58,14 @@ impl Words {
         })
     }
 
+    /// Makes the words those of `other`, whose arrays have the same lengths. Takes no memory.
+    pub fn copy_from(&mut self, other: &Words)
+        requires { self.old.sizes ≡ other.now.sizes }
+        ensures { self.new ≡ other.now }
+    {
+        self.words.copy_from_slice(other.words.as_slice());
+    }
+
     /// How many arrays there are.
     pub fn arrays(&self) -> usize
         ensures count { result ≡ length self.now.sizes }

@@ -1,4 +1,4 @@
-use Rattle.std.proofs.Common.{refl, sym, ◌∙◌}
+use Rattle.std.proofs.Common.{sym}
 use Rattle.cross_top.proofs.Written.{kept}
 use Rattle.cross_top.proofs.Replies.{read_is_due, unread_is_due}
 use Rattle.cross_top.proofs.top.answer_call.Goals as goal

@@ -6,9 +6,9 @@ use Rattle.nest_syntax.specs.Shape.{bodies_of}
 use Rattle.nest_syntax.specs.Arrays.{Array, arrays_of}
 use Rattle.data_local.specs.Written.{TellsWritten}
 use Rattle.data_local.specs.Bounds.{HasDataBound}
-use Rattle.lowest_line.specs.Lowest.{Lowers}
+use Rattle.nest_syntax.specs.Lowest.{Lowers}
 use Rattle.data_local.proofs.Lowests.{Among, lowers_none, lowers_more}
-use Rattle.lowest_line.proofs.Lowers.{lowest_of}
+use Rattle.nest_syntax.proofs.Lowers.{lowest_of}
 use Rattle.data_local.proofs.bounds.lowest_data_bound.Goals as goal
 
 pub loop-body-init : goal.loop-body-init

@@ -3,7 +3,7 @@ use Rattle.nest_syntax.specs.declared.tree.Stmt.{Stmt}
 use Rattle.nest_syntax.specs.Arrays.{arrays_of}
 use Rattle.nest_syntax.specs.Among.{IsOne}
 use Rattle.data_local.specs.Bounds.{HasDataBoundIn}
-use Rattle.lowest_line.specs.Lowest.{Lowers}
+use Rattle.nest_syntax.specs.Lowest.{Lowers}
 use Rattle.data_local.proofs.bounds.lowest_data_bound.Given as goal
 
 abbrev pub invariant-loop-body : goal.invariant-loop-body

@@ -1,6 +1,6 @@
 use Rattle.std.proofs.Common.{map, ap, ◌∙◌}
-use Rattle.lowest_line.specs.Lowest.{lower_of, lines_where}
-use Rattle.data_local.specs.Bounds.{line_of}
+use Rattle.nest_syntax.specs.Lowest.{lower_of, lines_where}
+use Rattle.data_local.specs.Loops.{line_of}
 use Rattle.data_local.specs.Breaches.{has_data_bound}
 use Rattle.data_local.proofs.Lowests.{body_lowers}
 use Rattle.data_local.proofs.bounds.note_data_bounds.Goals as goal

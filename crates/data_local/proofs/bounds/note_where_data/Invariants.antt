@@ -1,7 +1,7 @@
 use Rattle.std.proofs.Common.{◌≡◌, List, map, drop}
 use Rattle.nest_syntax.specs.Arrays.{Array}
-use Rattle.lowest_line.specs.Lowest.{lower_of, lines_where}
-use Rattle.data_local.specs.Bounds.{line_of}
+use Rattle.nest_syntax.specs.Lowest.{lower_of, lines_where}
+use Rattle.data_local.specs.Loops.{line_of}
 use Rattle.data_local.specs.Written.{TellsWritten}
 use Rattle.data_local.specs.Breaches.{has_data_bound}
 use Rattle.data_local.proofs.bounds.note_where_data.Given as goal

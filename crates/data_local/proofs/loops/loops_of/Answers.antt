@@ -1,7 +1,7 @@
 use Rattle.std.proofs.Common.{◌∷◌, refl, ap, ◌∙◌}
 use Rattle.std.specs.List.{flat_map}
 use Rattle.nest_syntax.specs.declared.tree.Loop.{Loop}
-use Rattle.data_local.specs.Loops.{loops_in}
+use Rattle.data_local.specs.Loops.{line_of, loops_in}
 use Rattle.data_local.proofs.Gathers.{gathers_more, gathers_end}
 use Rattle.data_local.proofs.loops.loops_of.Goals as goal
 

@@ -1,8 +1,8 @@
 use Rattle.std.proofs.Common.{◌≡◌, ℕ, ◌<◌, Some, [], ◌∷◌, sym, ap, ◌∙◌, subst}
 use Rattle.std.specs.Option.{option_map}
 use Rattle.nest_syntax.specs.declared.tree.Program.{Program}
-use Rattle.domore_core.specs.Machine.{move_of, state_after, scheduler_move}
-use Rattle.domore_core.proofs.Guards.{guarded}
+use Rattle.domore_machine.specs.Machine.{move_of, state_after, scheduler_move}
+use Rattle.domore_machine.proofs.Guards.{guarded}
 use Rattle.first_tasks.specs.Form.{first_of, first_form}
 use Rattle.first_tasks.specs.Setups.{setup}
 use Rattle.domore_engine.specs.Engine.{Row_data, setup_of, program_in, row_of}

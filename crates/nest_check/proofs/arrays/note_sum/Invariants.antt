@@ -1,5 +1,5 @@
 use Rattle.std.proofs.Common.{◌≡◌, ◌-◌, ◌≤◌, drop}
-use Rattle.lowest_line.specs.Lowest.{lower_of}
+use Rattle.nest_syntax.specs.Lowest.{lower_of}
 use Rattle.nest_check.specs.Rules.{sum_passes, most_words}
 use Rattle.nest_check.proofs.arrays.note_sum.Given as goal
 

@@ -1,8 +1,9 @@
-use Rattle.std.proofs.Common.{◌≡◌, Option, List, [], ◌∷◌, sym, ◌∙◌, subst}
+use Rattle.std.proofs.Common.{Option, List, [], ◌∷◌, sym, ◌∙◌, subst}
 use Rattle.nest_syntax.specs.declared.names.Line.{Line}
 use Rattle.nest_syntax.specs.declared.tree.Program.{Program}
-use Rattle.lowest_line.proofs.Lowers.{lowest_is}
+use Rattle.nest_syntax.proofs.Lowers.{lowest_is}
 use Rattle.nest_check.specs.Rules.{beyond_64, wrong_lengths, wrong_steps, deep_loops, large_regions, large_bodies, deep_expressions}
+use Rattle.nest_check.specs.ChangedBounds.{lines_of_changed_bounds}
 use Rattle.nest_check.specs.Broken.{IsBroken, rules_on}
 use Rattle.nest_check.proofs.Judged.{AreLowest, broken_is, deep_is}
 use Rattle.nest_check.proofs.judge.judge.Goals as goal
@@ -20,8 +21,8 @@ returns-clause-broken c =
     ∷ c.line-2.result
     ∷ c.in_ok-names.names.loop_variable_assigned
     ∷ c.in_ok-names.names.scheduler_scalar_assigned
-    ∷ c.in_ok-bounds.bounds.high
-    ∷ c.in_ok-bounds.bounds.inner
+    ∷ c.in_ok-changed_bound.changed_bound
+    ∷ c.in_ok-data_bound.data_bound
     ∷ c.line-3.result
     ∷ c.line-4.result
     ∷ c.lowest_deep.result
@@ -45,9 +46,9 @@ returns-clause-broken c =
                     (
                       c.in_ok-names.ensures.scheduler_scalar,
                       (
-                        c.in_ok-bounds.ensures.high,
+                        lowest_is (lines_of_changed_bounds program) _ c.in_ok-changed_bound.ensures,
                         (
-                          c.in_ok-bounds.ensures.inner,
+                          c.in_ok-data_bound.ensures,
                           (
                             lowest_is (large_regions program) _ (c.line-3.ensures ∙ c.in_ok-sizes.ensures.regions),
                             (

@@ -1,5 +1,5 @@
 use Rattle.std.proofs.Common.{arith}
-use Rattle.nest_input.proofs.Places.{line_within}
+use Rattle.nest_input.proofs.Spots.{line_within}
 use Rattle.nest_input.proofs.words.read_words.Goals as goal
 
 pub read_data-requires-clause-line : goal.read_data-requires-clause-line

@@ -2,4 +2,4 @@ use Rattle.nest_mean.proofs.Bound.{has_few}
 use Rattle.nest_mean.proofs.laws.few_iterations.Goals as goal
 
 pub returns : goal.returns
-returns c = λ nest runs. has_few nest runs
+returns c = λ nest few_bodies. has_few nest few_bodies

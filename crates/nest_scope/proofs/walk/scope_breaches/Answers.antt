@@ -1,7 +1,7 @@
 use Rattle.std.proofs.Common.{◌≡◌, ap, ◌∙◌}
 use Rattle.nest_scope.specs.declared.breaches.ScopeBreaches.{ScopeBreaches}
 use Rattle.nest_scope.specs.Occurrences.{occurrences_of}
-use Rattle.lowest_line.proofs.Lowers.{lowest_is}
+use Rattle.nest_syntax.proofs.Lowers.{lowest_is}
 use Rattle.nest_scope.specs.Rules.{lines_redeclared, lines_unknown, lines_const_written, lines_loop_variable_assigned, lines_scheduler_scalar_assigned}
 use Rattle.nest_scope.specs.Noted.{none_noted, all_noted}
 use Rattle.nest_scope.proofs.Nodes.{program_noted}

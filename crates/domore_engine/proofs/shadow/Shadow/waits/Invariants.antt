@@ -1,6 +1,6 @@
 use Rattle.std.proofs.Common.{◌≡◌, ◌≤◌, length}
 use Rattle.addr_slice.specs.Claims.{words_of}
-use Rattle.domore_core.specs.Waits.{waits_with}
+use Rattle.domore_machine.specs.Waits.{waits_with}
 use Rattle.domore_engine.specs.Shadows.{last_below}
 use Rattle.domore_engine.proofs.shadow.Shadow.waits.Given as goal
 

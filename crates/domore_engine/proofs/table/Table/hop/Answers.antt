@@ -1,7 +1,7 @@
 use Rattle.std.proofs.Common.{◌≡◌, ℤ, ◌++◌, [], ◌∷◌, slice_set, ap, ◌∙◌, SFits, w64, rules}
 use Rattle.std.proofs.lemmas.Int.{to_z-of_z}
 use Rattle.nest_syntax.specs.Arrays.{word_at}
-use Rattle.domore_core.specs.Machine.{Holding, seat_at}
+use Rattle.domore_machine.specs.Machine.{Holding, seat_at}
 use Rattle.domore_engine.specs.Engine.{Table as States}
 use Rattle.domore_engine.specs.Tables.{state_of}
 use Rattle.domore_engine.proofs.table.Table.hop.Goals as goal

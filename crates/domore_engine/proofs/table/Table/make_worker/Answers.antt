@@ -1,6 +1,6 @@
 use Rattle.std.proofs.Common.{sym, ap, ◌∙◌}
 use Rattle.std.specs.Option.{option_map}
-use Rattle.domore_core.proofs.Guards.{guarded}
+use Rattle.domore_machine.proofs.Guards.{guarded}
 use Rattle.first_tasks.specs.Form.{first_form}
 use Rattle.first_tasks.specs.Setups.{setup}
 use Rattle.first_tasks.proofs.Forms.{form_of}

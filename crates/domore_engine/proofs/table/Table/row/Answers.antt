@@ -1,7 +1,7 @@
 use Rattle.std.proofs.Common.{nat_lt, sym, ap, ◌∙◌}
 use Rattle.std.specs.Option.{option_map}
 use Rattle.std.proofs.lemmas.Bool.{lt-ltb, cond-true}
-use Rattle.domore_core.specs.Machine.{seat_at}
+use Rattle.domore_machine.specs.Machine.{seat_at}
 use Rattle.first_tasks.specs.Form.{first_form}
 use Rattle.first_tasks.proofs.Forms.{form_of}
 use Rattle.domore_engine.specs.Engine.{row_of}

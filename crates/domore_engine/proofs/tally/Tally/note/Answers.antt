@@ -1,5 +1,5 @@
 use Rattle.std.proofs.Common.{◌≡◌, ap, ◌∙◌}
-use Rattle.domore_core.specs.Waits.{Wait}
+use Rattle.domore_machine.specs.Waits.{Wait}
 use Rattle.domore_engine.specs.Tallies.{Tallied, with_wait}
 use Rattle.domore_engine.proofs.Tallying.{note_kept, note_is}
 use Rattle.domore_engine.proofs.tally.Tally.note.Goals as goal

@@ -1,7 +1,7 @@
 use Rattle.std.proofs.Common.{refl, sym, arith, ◌∙◌, ◌∷◌}
 use Rattle.nest_lex.specs.declared.token.Mark.TheVariants as mark
 use Rattle.nest_lex.specs.declared.token.Keyword.TheVariants as word
-use Rattle.nest_parse.specs.Machine.{This, Word, Statements, Elses, LoopName, AnyName, Subscript, initial_then, assigned_then, arm_then, Step, value_then, block_then, test_then}
+use Rattle.nest_parse.specs.Expected.{This, Word, Statements, Elses, LoopName, AnyName, Subscript, initial_then, assigned_then, arm_then, Step, value_then, block_then, test_then}
 use Rattle.nest_syntax.specs.declared.tree.Stmt.TheVariants as stmt
 use Rattle.nest_parse.specs.Grammar.{turns, statement, no_statement}
 use Rattle.nest_parse.proofs.Chains.{refused}

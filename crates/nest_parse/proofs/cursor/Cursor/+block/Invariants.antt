@@ -1,6 +1,6 @@
 use Rattle.std.proofs.Common.{◌+◌, ◌*◌, length}
 use Rattle.nest_parse.specs.Grammar.{IsStatements}
-use Rattle.nest_parse.specs.Machine.{Statements}
+use Rattle.nest_parse.specs.Expected.{Statements}
 use Rattle.nest_parse.proofs.Listing.{Listed}
 use Rattle.nest_parse.proofs.Blocks.{Armed}
 use Rattle.nest_parse.proofs.cursor.Cursor.+block.Given as goal

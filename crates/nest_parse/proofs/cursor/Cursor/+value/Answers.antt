@@ -1,5 +1,5 @@
 use Rattle.std.proofs.Common.{refl, ◌∙◌, ◌∷◌}
-use Rattle.nest_parse.specs.Machine.{This, Tail, value_then}
+use Rattle.nest_parse.specs.Expected.{This, Tail, value_then}
 use Rattle.nest_parse.proofs.Chains.{refused}
 use Rattle.nest_parse.proofs.Values.{started, operator_opens, joined_on, all_joined, lowest, value_plain, question_opens, choice_read, scalar_read, place_opens, word_read, named_handed, parentheses_handed, sign_opens, signed_read, number_opens, literal_read}
 use Rattle.nest_parse.proofs.cursor.Cursor.+value.Goals as goal

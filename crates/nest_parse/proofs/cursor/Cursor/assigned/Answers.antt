@@ -1,6 +1,6 @@
 use Rattle.std.proofs.Common.{◌∷◌}
 use Rattle.nest_lex.specs.declared.token.Mark.TheVariants as mark
-use Rattle.nest_parse.specs.Machine.{This, value_then}
+use Rattle.nest_parse.specs.Expected.{This, value_then}
 use Rattle.nest_parse.proofs.Chains.{refused}
 use Rattle.nest_parse.proofs.Blocks.{assigned_read}
 use Rattle.nest_parse.proofs.cursor.Cursor.assigned.Goals as goal

@@ -1,6 +1,6 @@
 use Rattle.std.proofs.Common.{◌∷◌}
 use Rattle.nest_lex.specs.declared.token.Mark.TheVariants as mark
-use Rattle.nest_parse.specs.Machine.{This, Signed}
+use Rattle.nest_parse.specs.Expected.{This, Signed}
 use Rattle.nest_parse.proofs.Chains.{refused}
 use Rattle.nest_parse.proofs.Blocks.{array_read, scalar_opens, declared_read}
 use Rattle.nest_parse.proofs.cursor.Cursor.behind_declared.Goals as goal

@@ -1,6 +1,6 @@
 use Rattle.std.proofs.Common.{length}
 use Rattle.nest_parse.specs.Grammar.{AreDecls}
-use Rattle.nest_parse.specs.Machine.{Decls}
+use Rattle.nest_parse.specs.Expected.{Decls}
 use Rattle.nest_parse.proofs.Listing.{Listed}
 use Rattle.nest_parse.proofs.cursor.Cursor.declarations.Given as goal
 

@@ -1,6 +1,6 @@
 use Rattle.std.proofs.Common.{refl, ◌∷◌}
 use Rattle.nest_lex.specs.declared.token.Mark.TheVariants as mark
-use Rattle.nest_parse.specs.Machine.{This, value_then}
+use Rattle.nest_parse.specs.Expected.{This, value_then}
 use Rattle.nest_parse.proofs.Chains.{refused}
 use Rattle.nest_parse.proofs.Blocks.{initial_read}
 use Rattle.nest_parse.proofs.cursor.Cursor.initial.Goals as goal

@@ -1,4 +1,4 @@
-use Rattle.nest_parse.specs.Machine.{initial_then}
+use Rattle.nest_parse.specs.Expected.{initial_then}
 use Rattle.nest_parse.proofs.Chains.{refused}
 use Rattle.nest_parse.proofs.Blocks.{local_read}
 use Rattle.nest_parse.proofs.cursor.Cursor.local.Goals as goal

@@ -1,6 +1,6 @@
 use Rattle.std.proofs.Common.{length}
 use Rattle.nest_parse.specs.Grammar.{AreLoops}
-use Rattle.nest_parse.specs.Machine.{Loops}
+use Rattle.nest_parse.specs.Expected.{Loops}
 use Rattle.nest_parse.proofs.Listing.{Listed}
 use Rattle.nest_parse.proofs.cursor.Cursor.regions.Given as goal
 

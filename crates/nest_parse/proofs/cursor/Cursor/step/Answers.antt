@@ -1,5 +1,5 @@
 use Rattle.std.proofs.Common.{◌∷◌}
-use Rattle.nest_parse.specs.Machine.{AnyNumber, StepTail}
+use Rattle.nest_parse.specs.Expected.{AnyNumber, StepTail}
 use Rattle.nest_parse.proofs.Chains.{refused}
 use Rattle.nest_parse.proofs.Blocks.{before_read, name_opens, behind_read, sum_opens, by_read}
 use Rattle.nest_parse.proofs.cursor.Cursor.step.Goals as goal

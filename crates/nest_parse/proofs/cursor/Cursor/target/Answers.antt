@@ -1,5 +1,5 @@
 use Rattle.std.proofs.Common.{refl, ◌∙◌}
-use Rattle.nest_parse.specs.Machine.{Subscript, assigned_then}
+use Rattle.nest_parse.specs.Expected.{Subscript, assigned_then}
 use Rattle.nest_parse.proofs.Chains.{refused}
 use Rattle.nest_parse.proofs.Values.{left_there, no_place, place_opens}
 use Rattle.nest_parse.proofs.Blocks.{assign_read, write_read}

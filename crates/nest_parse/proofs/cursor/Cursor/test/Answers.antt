@@ -1,6 +1,6 @@
 use Rattle.std.proofs.Common.{refl, ◌∙◌, ◌∷◌}
 use Rattle.nest_lex.specs.declared.token.Mark.TheVariants as mark
-use Rattle.nest_parse.specs.Machine.{This, Compare, level_then}
+use Rattle.nest_parse.specs.Expected.{This, Compare, level_then}
 use Rattle.nest_parse.proofs.Chains.{refused}
 use Rattle.nest_parse.proofs.Blocks.{test_read}
 use Rattle.nest_parse.proofs.cursor.Cursor.test.Goals as goal

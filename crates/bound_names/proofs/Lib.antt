@@ -1,0 +1,5 @@
+pub mod Equations
+pub mod Scopes
+pub mod Outside
+pub mod Meanings
+pub mod Walk

@@ -1,5 +1,0 @@
-use Rattle.domore_core.proofs.Counting as lemmas
-use Rattle.domore_core.proofs.facts_count.Goals as goal
-
-pub returns : goal.returns
-returns c = λ waits passed. lemmas.facts_count waits passed

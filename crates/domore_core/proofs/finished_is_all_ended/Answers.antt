@@ -1,5 +1,0 @@
-use Rattle.domore_core.proofs.Ended.{finishes}
-use Rattle.domore_core.proofs.finished_is_all_ended.Goals as goal
-
-pub returns : goal.returns
-returns g c = λ m nest what start setup history s leads. finishes _ _ _ m nest what start setup history s leads

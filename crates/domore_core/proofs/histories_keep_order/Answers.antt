@@ -1,5 +1,0 @@
-use Rattle.domore_core.proofs.Runs.{keeps_order}
-use Rattle.domore_core.proofs.histories_keep_order.Goals as goal
-
-pub returns : goal.returns
-returns g c = λ m nest what start setup history s leads. keeps_order _ _ _ m nest what start setup history s leads

@@ -1,5 +1,0 @@
-use Rattle.domore_core.proofs.Need as lemmas
-use Rattle.domore_core.proofs.needs_are_greatest.Goals as goal
-
-pub returns : goal.returns
-returns c = λ clashes width k u. lemmas.needs_are_greatest clashes width k u

@@ -1,5 +1,0 @@
-use Rattle.domore_core.proofs.Falls.{falls}
-use Rattle.domore_core.proofs.steps_fall.Goals as goal
-
-pub returns : goal.returns
-returns g c = λ m nest what start setup history s t actor leads step. falls _ _ _ m nest what start setup history s t actor leads step

@@ -1,6 +1,0 @@
-use Rattle.std.proofs.Common.{◌≡◌, ℕ, take}
-use Rattle.nest_syntax.specs.Among.{is_among}
-use Rattle.graph_reach.proofs.found_at_first.Given as goal
-
-abbrev pub invariant-loop-start : goal.invariant-loop-start
-invariant-loop-start l = (node : ℕ) → is_among l.found.keys node ≡ is_among (take l.start-index l.starts) node
