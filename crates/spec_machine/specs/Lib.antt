@@ -1,0 +1,11 @@
+pub mod Invocations
+pub mod Signatures
+pub mod Facts
+pub mod Machine
+pub mod Rows
+pub mod Table
+pub mod Runs
+pub mod Segments
+pub mod Theorems
+pub mod Measure
+pub mod Invariant
