@@ -1,0 +1,3 @@
+mod Belows
+mod Meets
+mod Words

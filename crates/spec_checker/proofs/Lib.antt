@@ -1,0 +1,4 @@
+mod Tests
+mod Reached
+mod Passing
+mod Numbering
