@@ -1,0 +1,5 @@
+pub mod Conflicts
+pub mod Greatest
+pub mod Maximum
+pub mod Noting
+pub mod Places

@@ -1,0 +1,4 @@
+pub mod Notes
+pub mod Last
+pub mod Accesses
+pub mod Laws
