@@ -1,0 +1,5 @@
+pub mod Forms
+pub mod Spans
+pub mod Accesses
+pub mod Kinds
+pub mod Apart
