@@ -1,0 +1,12 @@
+pub mod Hops
+pub mod Follows
+pub mod Emitted
+pub mod Frames
+pub mod Given
+pub mod Reckonings
+pub mod Binaries
+pub mod Leaves
+pub mod Codes
+pub mod Blocks
+pub mod Rounds
+pub mod Places

@@ -1,0 +1,5 @@
+pub mod Code
+pub mod Unfolded
+pub mod Follows
+pub mod Ready
+pub mod Compiled

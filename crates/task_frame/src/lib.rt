@@ -1,0 +1,14 @@
+//! Pieces of work: a hop with the frame that it begins on, and what working on it gives.
+//!
+//! In comes the code of a program, out go pieces. A piece is plain data; `work` carries its hop out, outside any lock, and
+//! what it gives keeps the piece with it. The pieces of a code are a task system of `settle_law`.
+#![tactic(auto)]
+
+mod laws;
+mod piece;
+mod worked;
+
+pub use laws::{turns_are_realised, turns_may_pause};
+pub use piece::{Piece, opening};
+pub use task_hop::{Frame, Stop};
+pub use worked::{Worked, work};

@@ -1,0 +1,32 @@
+ghost use Rattle.std.specs.Prelude.{◌≡◌, ◌<◌, length};
+ghost use Rattle.task_frame.specs.Pieces.{opening_of};
+
+use task_code::TaskCode;
+use task_hop::{Frame, Hop, Register};
+
+/// A hop, with the frame that it begins on.
+#[derive(Debug, Drop, PartialEq, Eq)]
+pub struct Piece {
+    pub hop: Hop,
+    pub frame: Frame,
+}
+
+/// The piece with which an iteration of a body begins: the hop at the body's entry, with the scheduler scalars `env`, the
+/// invocation's variable `value`, and 0 in every other register.
+pub fn opening(code: &TaskCode, body: u32, value: i64, env: &[i64; 32]) -> Piece
+    requires { body < length code.now.entries }
+    ensures { result ≡ opening_of code.now body value env.now }
+{
+    let mut frame = Frame {
+        env: *env,
+        locals: [0; 16],
+        temps: [0; 32],
+    };
+    if let Some(slot) = code.slot(body) {
+        frame.set(Register::Local(slot), value);
+    }
+    Piece {
+        hop: code.hop(code.entry(body)),
+        frame,
+    }
+}
