@@ -1,0 +1,4 @@
+pub mod Following
+pub mod Putting
+pub mod Presents
+pub mod Whole

@@ -1,0 +1,19 @@
+-- A cursor, as plain data: its script, where it stands, the region that was entered, the scalars, and how many iterations
+-- were passed.
+use Rattle.std.specs.Prelude.{ℕ, ℤ, List}
+use Rattle.sched_cursor.specs.declared.node.Next.{Next}
+use Rattle.sched_cursor.specs.declared.node.Node.{Node}
+use Rattle.sched_cursor.specs.declared.node.Region.{Region}
+use Rattle.sched_cursor.specs.declared.node.At.{At}
+use Rattle.sched_cursor.specs.declared.node.At.TheVariants as at
+
+pub record Cursor : Type 0 where
+  pub nodes : List Node
+  pub entry : Next
+  pub at : At
+  pub region : Region
+  pub scalars : List ℤ
+  pub next : ℕ
+
+abbrev pub standing : Cursor → Next → Cursor
+standing c next = record c { at = at.Before next }
