@@ -1,4 +1,3 @@
-mod Counts
 mod Wide
 pub mod Whole
 pub mod Values

@@ -177,7 +177,7 @@ fn behind_first_through(low: i64, high: i64, step: u64) -> Option<u64>
 }
 
 // A loop with a step of 0 would have no turns here.
-#[tactic(auto, using(crate::proofs::Counts::div_ceil_is))]
+#[tactic(auto, using(word_store::proofs::Counts::div_ceil_is))]
 fn behind_first_below(low: i64, high: i64, step: u64) -> Option<u64>
     ensures number { result ≡ turns_behind_first (turns low high step false) }
     ensures reach { IfSome result (λ behind. FitsSigned w64 (variable low step behind)) }
