@@ -30,14 +30,14 @@ use Rattle.body_names.proofs.Names.{bound_with}
 use Rattle.body_names.proofs.Programs.{is_inner, IsAround, around_decls, stays, unbound_at}
 
 -- names among declarations
-has_left : (xs ys : List Declaration) (name : ℕ) → has_name xs name ≡ true → has_name (xs ++ ys) name ≡ true
+pub has_left : (xs ys : List Declaration) (name : ℕ) → has_name xs name ≡ true → has_name (xs ++ ys) name ≡ true
 has_left xs ys name there = list_any-append (λ (d : Declaration). d.0 == name) xs ys ∙ ap (λ b. b || has_name ys name) there
 
 or_right : (a b : Bool) → b ≡ true → (a || b) ≡ true
 or_right true b e = refl
 or_right false b e = e
 
-has_right : (xs ys : List Declaration) (name : ℕ) → has_name ys name ≡ true → has_name (xs ++ ys) name ≡ true
+pub has_right : (xs ys : List Declaration) (name : ℕ) → has_name ys name ≡ true → has_name (xs ++ ys) name ≡ true
 has_right xs ys name there = list_any-append (λ (d : Declaration). d.0 == name) xs ys ∙ or_right (has_name xs name) (has_name ys name) there
 
 has_here : (d : Declaration) (ds : List Declaration) (name : ℕ) → name ≡ d.0 → has_name (d ∷ ds) name ≡ true
@@ -166,7 +166,7 @@ written program scope outside name is =
 
 module _ (program : Program) where
   -- the declaration of a scalar of the scheduler
-  abbrev IsScalars : Declaration → Type 0
+  abbrev pub IsScalars : Declaration → Type 0
   IsScalars d = has_name (scheduler_scalars program) d.0 ≡ true
 
   scheduler_no_array : (to : Binding) → is_schedulers to ≡ true → is_no_array to ≡ true
@@ -178,7 +178,7 @@ module _ (program : Program) where
   scheduler_no_array binding.Array e = absurd (cc)
   scheduler_no_array binding.ConstArray e = absurd (cc)
 
-  stays_outside : (to : Binding) → is_schedulers to ≡ true → (scope : Scope) (d : Declaration) → IsScalars d → Outside program scope → Outside program (with_bound scope d.0 to)
+  pub stays_outside : (to : Binding) → is_schedulers to ≡ true → (scope : Scope) (d : Declaration) → IsScalars d → Outside program scope → Outside program (with_bound scope d.0 to)
   stays_outside to is scope d among outside = record {
     many = length-set scope d.0 to ∙ outside.many;
     around = stays to is scope d.0 outside.around;
@@ -197,13 +197,13 @@ module _ (program : Program) where
   each_declared [] within = tt
   each_declared (d ∷ ds) within = (within d.0 (has_here d ds d.0 refl), each_declared ds (λ name e. within name (or_right (d.0 == name) (has_name ds name) e)))
 
-  regions_declared : (regions : List Loop) → ((name : ℕ) → has_name (flat_map scalars_in_region regions) name ≡ true → has_name (scheduler_scalars program) name ≡ true) → Each (Declared (Outside program) IsScalars stays_outside) regions
+  pub regions_declared : (regions : List Loop) → ((name : ℕ) → has_name (flat_map scalars_in_region regions) name ≡ true → has_name (scheduler_scalars program) name ≡ true) → Each (Declared (Outside program) IsScalars stays_outside) regions
   regions_declared [] within = tt
   regions_declared (l ∷ regions) within =
       let here : Each IsScalars (scalars_in_region l) = each_declared (scalars_in_region l) (λ name e. within name (has_left (scalars_in_region l) (flat_map scalars_in_region regions) name e)) in
       ((here.0, here.1), regions_declared regions (λ name e. within name (has_right (scalars_in_region l) (flat_map scalars_in_region regions) name e)))
 
-  declared_outside : IsWellNamed program → KeepsRules program → Outside program (declared_scope program)
+  pub declared_outside : IsWellNamed program → KeepsRules program → Outside program (declared_scope program)
   declared_outside named keeps = record {
     many = decls_many program.decls (unbound (length program.names)) ∙ length-replicate (length program.names) binding.Unbound;
     around = around_decls program.decls (unbound (length program.names)) (λ name. ap is_inner (unbound_at (length program.names) name));

@@ -8,7 +8,7 @@ use Rattle.word_store.specs.Memory.{Memory}
 use Rattle.nest_input.specs.declared.refused.Refusal.{Refusal}
 use Rattle.nest_input.specs.Input.{SaysNest, SaysWords}
 use Rattle.cross_top.specs.declared.words.Action.{Action}
-use Rattle.cross_top.specs.declared.words.Action.TheVariants.{Plain, Check, Alone}
+use Rattle.cross_top.specs.declared.words.Action.TheVariants.{Plain, Check, Deps, Alone}
 use Rattle.cross_top.specs.declared.words.Call.{Call}
 use Rattle.progress_board.specs.declared.options.Options.{Options}
 use Rattle.cross_top.specs.Answers.{Answer, reported, rotation_of, job_of, AnswersRun, AnswersPlain, AnswersAlone, runs, no_form, AnswersWords, AnswersData, AnswersProgram, AnswersNest, too_long, a_text, OneAnswer}
@@ -46,6 +46,7 @@ module _ (one_nest : (input : List ℕ) (said other : Result Program Refusal) �
   of_program : (action : Action) (options : Options) (input : List ℕ) (program : Program) (answer other : Answer) → AnswersProgram action options input program answer → AnswersProgram action options input program other → answer ≡ other
   of_program Plain options input program answer other is is' = of_data (AnswersPlain program) (one_plain program) input program answer other is is'
   of_program Check options input program answer other is is' = is ∙ sym is'
+  of_program Deps options input program answer other is is' = is ∙ sym is'
   of_program Alone options input program answer other is is' = of_data (AnswersAlone options program) (one_alone options program) input program answer other is is'
 
   of_nest : (call : Call) (input : List ℕ) (said : Result Program Refusal) (answer other : Answer) → AnswersNest call input said answer → AnswersNest call input said other → answer ≡ other

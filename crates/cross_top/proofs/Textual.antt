@@ -6,7 +6,6 @@ use Rattle.nest_mean.specs.Nest.{Nest}
 use Rattle.word_store.specs.Memory.{Memory}
 use Rattle.nest_data.specs.Text.{array_lines}
 use Rattle.settle_law.specs.Runs.{run, IsComplete}
-use Rattle.progress_board.specs.Runs.{Agrees}
 use Rattle.domore_engine.specs.Engine.{Engine, measure, opening, step, is_finished, facts_of}
 use Rattle.domore_engine.specs.Theorems.{EndsAs, Tells, facts_due}
 use Rattle.domore_engine.proofs.Histories.{ends_as_job}
@@ -18,6 +17,7 @@ use Rattle.cross_top.specs.declared.status.Status.TheVariants as status
 use Rattle.cross_top.specs.Words.{IsRunnable}
 use Rattle.cross_top.specs.Answers.{Answer, rotation_of, reported, AnswersRun, RunsAlone, FactsAreDue, job_of}
 use Rattle.cross_top.specs.Report.{domore_report}
+use Rattle.cross_top.specs.Rotated.{IsRotated}
 use Rattle.cross_top.specs.Told.{told, told_at}
 
 -- what an engine that tells an outcome is told as
@@ -45,12 +45,11 @@ facts_are_due job options form in_range history answer run words done =
 
 -- what `alone` answers, from what its calls leave
 pub alone_due : (r : Result Answer NoMemory) (job : Nest) → IsFirstForm job.program → job ≡ job_of job.program job.opening.words → (options : Options) → IsRunnable options → (start e : Engine) → start ≡ opening job options
-    → (before after : List ℕ) → before ≡ [] → after ≡ before ++ rotation step measure start (actors_of start.options) [] → Agrees step start before e after → is_finished e ≡ true
-    → IfOk r (λ reply. reply ≡ told e after) → IfOk r (λ reply. RunsAlone options job.program job.opening.words reply)
-alone_due (Err x) job form own options runnable start e s before after b t a finished h = tt
-alone_due (Ok reply) job form own options runnable start e s before after b t a finished h =
-    let after_is : after ≡ rotation_of options job = t ∙ ap (λ (x : List ℕ). x ++ rotation step measure start (actors_of start.options) []) b ∙ ap (λ (x : Engine). rotation step measure x (actors_of x.options) []) s in
-    let made_is : a.made ≡ rotation_of options job = sym (a.appended ∙ ap (λ (x : List ℕ). x ++ a.made) b) ∙ after_is in
-    let ran : run step (opening job options) a.made ≡ Some e = subst (λ (x : Engine). run step x a.made ≡ Some e) s a.ran in
-    let complete : IsComplete step is_finished (opening job options) (rotation_of options job) = record { last = e; ran = subst (λ (x : List ℕ). run step (opening job options) x ≡ Some e) made_is ran; finished = finished } in
-    subst (λ (j : Nest). AnswersRun j options (rotation_of options j) reply) own (answers_run options runnable job form (rotation_of options job) complete reply (h ∙ ap (λ (x : List ℕ). told e x) after_is))
+    → (history : List ℕ) → IsRotated start e history → IfOk r (λ reply. reply ≡ told e history) → IfOk r (λ reply. RunsAlone options job.program job.opening.words reply)
+alone_due (Err x) job form own options runnable start e s history rotated h = tt
+alone_due (Ok reply) job form own options runnable start e s history rotated h =
+    let history_is : history ≡ rotation_of options job = rotated.rotation_is ∙ ap (λ (x : Engine). rotation step measure x (actors_of x.options) []) s in
+    let made_is : rotated.agrees.made ≡ rotation_of options job = sym rotated.agrees.appended ∙ history_is in
+    let ran : run step (opening job options) rotated.agrees.made ≡ Some e = subst (λ (x : Engine). run step x rotated.agrees.made ≡ Some e) s rotated.agrees.ran in
+    let complete : IsComplete step is_finished (opening job options) (rotation_of options job) = record { last = e; ran = subst (λ (x : List ℕ). run step (opening job options) x ≡ Some e) made_is ran; finished = rotated.finished } in
+    subst (λ (j : Nest). AnswersRun j options (rotation_of options j) reply) own (answers_run options runnable job form (rotation_of options job) complete reply (h ∙ ap (λ (x : List ℕ). told e x) history_is))

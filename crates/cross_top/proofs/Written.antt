@@ -7,7 +7,7 @@ use Rattle.nest_syntax.specs.declared.tree.Program.{Program}
 use Rattle.cross_top.specs.declared.status.Status.{Status}
 use Rattle.cross_top.specs.declared.status.Status.TheVariants as status
 use Rattle.cross_top.specs.declared.words.Action.{Action}
-use Rattle.cross_top.specs.declared.words.Action.TheVariants.{Plain, Check, Alone}
+use Rattle.cross_top.specs.declared.words.Action.TheVariants.{Plain, Check, Deps, Alone}
 use Rattle.cross_top.specs.declared.words.Call.{Call}
 use Rattle.progress_board.specs.declared.options.Options.{Options}
 use Rattle.word_store.specs.Memory.{Memory}
@@ -16,7 +16,7 @@ use Rattle.nest_mean.specs.Nest.{Nest}
 use Rattle.progress_board.specs.declared.facts.Facts.{Facts}
 use Rattle.domore_engine.specs.Engine.{facts_of}
 use Rattle.cross_top.specs.Words.{call_of}
-use Rattle.cross_top.specs.Answers.{Answer, refusal, refused_answer, printed, reported, rotation_of, job_of, plain_answer, check_answer}
+use Rattle.cross_top.specs.Answers.{Answer, refusal, refused_answer, printed, reported, rotation_of, job_of, plain_answer, check_answer, deps_answer}
 use Rattle.cross_top.specs.Answers.{AnswersPlain, AnswersAlone, runs, no_form, AnswersWords, AnswersProgram, AnswersNest, AnswersInput, too_long, a_text}
 use Rattle.cross_top.specs.Ends.{SourceChange, IsDue, IsDueTo, Ends}
 
@@ -63,6 +63,7 @@ words_answers Acts acts (Err why) answer is = is_answering answer (refused_answe
 program_answers : (action : Action) (options : Options) (input : List ℕ) (program : Program) (answer : Answer) → AnswersProgram action options input program answer → IsAnswering answer.status
 program_answers Plain options input program answer is = words_answers (AnswersPlain program) (plain_answers program) is.said answer is.answers
 program_answers Check options input program answer is = is_answering answer (check_answer program) is tt
+program_answers Deps options input program answer is = is_answering answer (deps_answer program) is tt
 program_answers Alone options input program answer is = words_answers (AnswersAlone options program) (alone_answers options program) is.said answer is.answers
 
 nest_answers : (call : Call) (input : List ℕ) (said : Result Program Refusal) (answer : Answer) → AnswersNest call input said answer → IsAnswering answer.status

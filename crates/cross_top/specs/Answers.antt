@@ -12,10 +12,11 @@ use Rattle.nest_print.specs.Canonical.{canonical_text}
 use Rattle.first_form.specs.Spelled.{IsSpelledFirst}
 use Rattle.nest_data.specs.Text.{array_lines}
 use Rattle.nest_report.specs.Text.{trap_line}
+use Rattle.nest_report.specs.Deps.{deps_text}
 use Rattle.cross_top.specs.declared.status.Status.{Status}
 use Rattle.cross_top.specs.declared.status.Status.TheVariants as status
 use Rattle.cross_top.specs.declared.words.Action.{Action}
-use Rattle.cross_top.specs.declared.words.Action.TheVariants.{Plain, Check, Alone}
+use Rattle.cross_top.specs.declared.words.Action.TheVariants.{Plain, Check, Deps, Alone}
 use Rattle.cross_top.specs.declared.words.Call.{Call}
 use Rattle.nest_mean.specs.Nest.{Nest}
 use Rattle.settle_law.specs.Runs.{IsComplete}
@@ -71,6 +72,10 @@ plain_answer program words = printed program (ending program words)
 abbrev pub check_answer : Program → Answer
 check_answer program = record { status = status.Done; bytes = canonical_text program; history = [] }
 
+-- what `deps` answers to a program: the kind of each loop that invokes a body
+abbrev pub deps_answer : Program → Answer
+deps_answer program = record { status = status.Done; bytes = deps_text program; history = [] }
+
 -- what `alone` answers to a program of the first form on these opening words: a run by the rotation
 abbrev pub RunsAlone : Options → Program → List ℤ → Answer → Type 0
 RunsAlone options program words answer = AnswersRun (job_of program words) options (rotation_of options (job_of program words)) answer
@@ -99,10 +104,11 @@ pub record AnswersData (Acts : List ℤ → Answer → Type 0) (input : List ℕ
   pub says : SaysWords input program said
   pub answers : AnswersWords Acts said answer
 
--- what an action with these options answers to an input with this program; `check` doesn't look at the data lines
+-- what an action with these options answers to an input with this program; `check` and `deps` don't look at the data lines
 abbrev pub AnswersProgram : Action → Options → List ℕ → Program → Answer → Type 0
 AnswersProgram Plain options input program answer = AnswersData (AnswersPlain program) input program answer
 AnswersProgram Check options input program answer = answer ≡ check_answer program
+AnswersProgram Deps options input program answer = answer ≡ deps_answer program
 AnswersProgram Alone options input program answer = AnswersData (AnswersAlone options program) input program answer
 
 -- what a call answers to what the nest of an input says

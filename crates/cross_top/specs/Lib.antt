@@ -3,5 +3,6 @@ pub mod Words
 pub mod Report
 pub mod Refusals
 pub mod Answers
+pub mod Rotated
 pub mod Told
 pub mod Ends

@@ -7,7 +7,7 @@ use Rattle.progress_board.specs.declared.options.Options.{Options}
 use Rattle.progress_board.specs.declared.options.Engine.TheVariants.{Domore}
 use Rattle.progress_board.specs.declared.options.Sign.TheVariants.{Range}
 use Rattle.cross_top.specs.declared.words.Action.{Action}
-use Rattle.cross_top.specs.declared.words.Action.TheVariants.{Plain, Check, Alone}
+use Rattle.cross_top.specs.declared.words.Action.TheVariants.{Plain, Check, Deps, Alone}
 use Rattle.cross_top.specs.declared.words.Call.{Call}
 
 -- how an engine runs where the words don't say: two workers, queues of 16
@@ -20,7 +20,7 @@ call_by_name action = record { action = action; options = default_options; size 
 
 -- the action with this name
 abbrev pub action_named : List ℕ → Option Action
-action_named word = if bytes_eq word (codes "plain") then Some Plain else (if bytes_eq word (codes "check") then Some Check else (if bytes_eq word (codes "alone") then Some Alone else None))
+action_named word = if bytes_eq word (codes "plain") then Some Plain else (if bytes_eq word (codes "check") then Some Check else (if bytes_eq word (codes "deps") then Some Deps else (if bytes_eq word (codes "alone") then Some Alone else None)))
 
 -- what the words ask for, none where they aren't in the table
 abbrev pub call_of : List (List ℕ) → Option Call
@@ -32,6 +32,7 @@ call_of (word ∷ other ∷ more) = None
 abbrev pub reads_input : Action → Bool
 reads_input Plain = true
 reads_input Check = true
+reads_input Deps = true
 reads_input Alone = true
 
 -- options that the engine runs with

@@ -3,6 +3,7 @@ ghost use Rattle.nest_syntax.specs.FirstForm.{IsFirstForm};
 ghost use Rattle.domore_engine.specs.Engine.{is_finished};
 ghost use Rattle.cross_top.specs.Answers.{RunsAlone, job_of};
 ghost use Rattle.cross_top.specs.Words.{IsRunnable};
+ghost use Rattle.cross_top.specs.Rotated.{IsRotated};
 ghost use Rattle.cross_top.specs.Told.{told, done_text};
 
 use crate::answers::Reply;
@@ -25,9 +26,17 @@ pub fn alone(alloc: Global, options: Options, job: Job) -> Result<Reply, NoMemor
     ensures { IfOk result (λ reply. RunsAlone options job.program job.opening.words reply) }
 {
     let mut machine = Domore::open(alloc, job, options)?;
-    let mut history = Vec::new(alloc);
-    lone_run(&mut machine, &[], &mut history)?;
+    let history = rotated(alloc, &mut machine)?;
     told(alloc, &machine, history)
+}
+
+/// Drives a machine to its end, and gives the steps that were made.
+fn rotated(alloc: Global, machine: &mut Domore) -> Result<Vec<u8>, NoMemory>
+    ensures { IfOk result (λ history. IsRotated machine.old machine.new history.items) }
+{
+    let mut history = Vec::new(alloc);
+    lone_run(machine, &[], &mut history)?;
+    Ok(history)
 }
 
 /// What a finished machine tells.

@@ -1,6 +1,6 @@
 ghost use Rattle.std.specs.Prelude.{◌≡◌, ◌≤◌, IfOk, length};
 ghost use Rattle.nest_io.specs.declared.transfer.TheConstants.{MOST_BYTES};
-ghost use Rattle.cross_top.specs.Answers.{refusal, refused_answer, plain_answer, check_answer};
+ghost use Rattle.cross_top.specs.Answers.{refusal, refused_answer, plain_answer, check_answer, deps_answer};
 ghost use Rattle.cross_top.specs.Answers.{AnswersInput, AnswersProgram, AnswersData, AnswersPlain, AnswersAlone};
 ghost use Rattle.cross_top.specs.Words.{IsRunnable};
 
@@ -14,7 +14,7 @@ use nest_data::print_words;
 use nest_input::{InputRefused, Refusal, read_nest, read_words};
 use nest_mean::{Job, Outcome, run_plain};
 use nest_print::print_program;
-use nest_report::print_place;
+use nest_report::{print_deps, print_place};
 use nest_syntax::NoMemory;
 use progress_board::Options;
 use std::alloc::Global;
@@ -86,6 +86,7 @@ fn answer_program(
     match action {
         Action::Plain => plain_of(alloc, input, checked),
         Action::Check => canonical(alloc, &checked),
+        Action::Deps => kinds(alloc, &checked),
         Action::Alone => alone_of(alloc, options, input, checked),
     }
 }
@@ -95,6 +96,18 @@ fn canonical(alloc: Global, checked: &Checked) -> Result<Reply, NoMemory>
     ensures { IfOk result (λ reply. reply ≡ check_answer checked.now) }
 {
     let text = print_program(alloc, checked.program())?;
+    Ok(Reply {
+        status: Status::Done,
+        text,
+        history: Vec::new(alloc),
+    })
+}
+
+/// The kind of each loop of a program that invokes a body.
+fn kinds(alloc: Global, checked: &Checked) -> Result<Reply, NoMemory>
+    ensures { IfOk result (λ reply. reply ≡ deps_answer checked.now) }
+{
+    let text = print_deps(alloc, checked)?;
     Ok(Reply {
         status: Status::Done,
         text,

@@ -10,6 +10,8 @@ pub enum Action {
     Plain,
     /// Reads the nest alone and prints its canonical text.
     Check,
+    /// Reads the nest alone and prints a line for each loop that invokes a body: whether its iterations are apart.
+    Deps,
     /// Runs the engine `domore` on one thread, and prints outcome and report.
     Alone,
 }
@@ -20,7 +22,7 @@ impl Action {
         ensures { result ≡ reads_input self }
     {
         match self {
-            Action::Plain | Action::Check | Action::Alone => true,
+            Action::Plain | Action::Check | Action::Deps | Action::Alone => true,
         }
     }
 }
@@ -77,6 +79,8 @@ fn action_named(word: &str) -> Option<Action>
         Some(Action::Plain)
     } else if word == "check" {
         Some(Action::Check)
+    } else if word == "deps" {
+        Some(Action::Deps)
     } else if word == "alone" {
         Some(Action::Alone)
     } else {

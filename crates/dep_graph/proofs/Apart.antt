@@ -31,7 +31,8 @@ use Rattle.dep_graph.specs.declared.kinds.LoopKind.TheVariants as kind
 use Rattle.dep_graph.specs.Forms.{is_given}
 use Rattle.dep_graph.specs.Accesses.{accesses_of}
 use Rattle.dep_graph.specs.Kinds.{is_parted, passes_test, may_depend, first_where, behind, kind_from, kind_of, do_match, is_moderate, stands_apart, is_skipped, is_elsewhere}
-use Rattle.dep_graph.specs.Apart.{HoldsItsVariable, IsOrderly, turn_with, DoAllIsApart}
+use Rattle.dep_graph.specs.Apart.{turn_with, DoAllIsApart}
+use Rattle.dep_graph.proofs.Orderly.{HoldsItsVariable, IsOrderly, is_orderly}
 use Rattle.dep_graph.proofs.Whole.{Same}
 use Rattle.dep_graph.proofs.Values.{Valuation, value_of, and_left, and_right}
 use Rattle.dep_graph.proofs.Reach.{Between, loop_part}
@@ -257,7 +258,8 @@ module _ (program : Program) (nest : Loop) (orderly : IsOrderly program nest) (s
   turn_touches = body_touches program nest opening numbers is_numbered (Claimed program nest numbers (scalar_at opening nest.name)) (IsOne (accesses_of program nest)) (claims program nest numbers (scalar_at opening nest.name)) (all_hold (loops_in nest.body) orderly.variables.1) (each_own (accesses_of program nest))
 
 pub do_all_is_apart : DoAllIsApart
-do_all_is_apart program nest orderly all scalars words sized low k m few few' differ =
+do_all_is_apart program well keeps nest invokes all scalars words sized low k m few few' differ =
+    let orderly = is_orderly program well keeps nest invokes in
     let arrays = arrays_of program.decls in
     let first = variable low nest.step k in let second = variable low nest.step m in
     let numbers = map (scalar_at scalars) (names_of (first_of_each (scheduler_scalars program))) in

@@ -42,6 +42,10 @@ use Rattle.dep_graph.proofs.Touching.{Claim, Touches, if-touches, done-touches}
 use Rattle.dep_graph.proofs.Meaning.{IsValueOf, IsSubscript, ExprTouches, Held, expr_touches, access_claimed}
 use Rattle.dep_graph.proofs.Scalars.{State, IsStill, IsInside, IsNumbered, Changes, changes_none, changes_one, changes_both, changes_more, changes_within, state_after, state_entered, still_entered, still_first, still_second, entered, valued, FitsHeader, symbols_agree, out_first, out_second, in_first, in_second}
 
+-- four things of a node, each by its layer
+by_layers : {A B C D : Type 0} (P : A → B → C → D → Type 0) {a a' : A} {b b' : B} {c c' : C} {d d' : D} → a ≡ a' → b ≡ b' → c ≡ c' → d ≡ d' → P a' b' c' d' → P a b c d
+by_layers P {a} {a'} {b} {b'} {c} {c'} {d} {d'} one two three four h = subst (λ x. P x b c d) (sym one) (subst (λ x. P a' x c d) (sym two) (subst (λ x. P a' b' x d) (sym three) (subst (λ x. P a' b' c' x) (sym four) h)))
+
 -- the reckoning of a literal bound goes on with its number alone
 module _ (arrays : List Array) (P : Claim) where
   abbrev Goes : Reckoning → ℤ → Type 0
@@ -329,11 +333,8 @@ module _ (program : Program) (nest : Loop) (opening numbered : List ℤ) (right 
 
   loop_step : (x : Loop-F Stmt Arm Loop) (y : Loop-F A_stmt An_arm A_loop) → map-Loop A_stmt An_arm A_loop Stmt Arm Loop (λ q. q.0) (λ q. q.0) (λ q. q.0) y ≡ x → LoopIs (roll-Loop x)
   loop_step x y is holds_own =
-      subst (λ f. Does f (given_in_loop true (roll-Loop x)) (loop_accesses program nest (roll-Loop x)) (loops_below (roll-Loop x))) (sym (fold-roll-Loop Effect Arm_effect Effect (effect_node arrays) (arm_node arrays) (loop_node arrays) x))
-      (subst (λ g. Does (loop_at x) g (loop_accesses program nest (roll-Loop x)) (loops_below (roll-Loop x))) (sym (fold-roll-Loop (List ℕ) (List ℕ) (List ℕ) (given_node true) given_arm_node given_loop_node x))
-      (subst (λ a. Does (loop_at x) (loop_names_at x) a (loops_below (roll-Loop x))) (sym (fold-roll-Loop Accesses Accesses Accesses (accesses_node program nest) (arm_accesses_node program nest) (loop_accesses_node program nest) x))
-      (subst (λ l. Does (loop_at x) (loop_names_at x) (loop_accesses_at x) l) (sym (para-roll-Loop Loops Loops Loops loops_node loops_arm_node loops_loop_node x))
-      (subst LoopAt is (loop_layer y) holds_own))))
+      by_layers Does (fold-roll-Loop Effect Arm_effect Effect (effect_node arrays) (arm_node arrays) (loop_node arrays) x) (fold-roll-Loop (List ℕ) (List ℕ) (List ℕ) (given_node true) given_arm_node given_loop_node x)
+      (fold-roll-Loop Accesses Accesses Accesses (accesses_node program nest) (arm_accesses_node program nest) (loop_accesses_node program nest) x) (para-roll-Loop Loops Loops Loops loops_node loops_arm_node loops_loop_node x) (subst LoopAt is (loop_layer y) holds_own)
 
   -- one layer of an arm
   abbrev arm_at : Arm-F Stmt Arm Loop → Arm_effect
@@ -359,11 +360,8 @@ module _ (program : Program) (nest : Loop) (opening numbered : List ℤ) (right 
 
   arm_step : (x : Arm-F Stmt Arm Loop) (y : Arm-F A_stmt An_arm A_loop) → map-Arm A_stmt An_arm A_loop Stmt Arm Loop (λ q. q.0) (λ q. q.0) (λ q. q.0) y ≡ x → ArmIs (roll-Arm x)
   arm_step x y is =
-      subst (λ f. ArmDoes f (given_in_arm true (roll-Arm x)) (arm_accesses program nest (roll-Arm x)) (loops_in_arm (roll-Arm x))) (sym (fold-roll-Arm Effect Arm_effect Effect (effect_node arrays) (arm_node arrays) (loop_node arrays) x))
-      (subst (λ g. ArmDoes (arm_at x) g (arm_accesses program nest (roll-Arm x)) (loops_in_arm (roll-Arm x))) (sym (fold-roll-Arm (List ℕ) (List ℕ) (List ℕ) (given_node true) given_arm_node given_loop_node x))
-      (subst (λ a. ArmDoes (arm_at x) (arm_names_at x) a (loops_in_arm (roll-Arm x))) (sym (fold-roll-Arm Accesses Accesses Accesses (accesses_node program nest) (arm_accesses_node program nest) (loop_accesses_node program nest) x))
-      (subst (λ l. ArmDoes (arm_at x) (arm_names_at x) (arm_accesses_at x) l) (sym (para-roll-Arm Loops Loops Loops loops_node loops_arm_node loops_loop_node x))
-      (subst ArmAt is (arm_layer y)))))
+      by_layers ArmDoes (fold-roll-Arm Effect Arm_effect Effect (effect_node arrays) (arm_node arrays) (loop_node arrays) x) (fold-roll-Arm (List ℕ) (List ℕ) (List ℕ) (given_node true) given_arm_node given_loop_node x)
+      (fold-roll-Arm Accesses Accesses Accesses (accesses_node program nest) (arm_accesses_node program nest) (loop_accesses_node program nest) x) (para-roll-Arm Loops Loops Loops loops_node loops_arm_node loops_loop_node x) (subst ArmAt is (arm_layer y))
 
   -- one layer of a statement
   abbrev effect_at : Stmt-F Stmt Arm Loop → Effect
@@ -404,11 +402,8 @@ module _ (program : Program) (nest : Loop) (opening numbered : List ℤ) (right 
 
   stmt_step : (x : Stmt-F Stmt Arm Loop) (y : Stmt-F A_stmt An_arm A_loop) → map-Stmt A_stmt An_arm A_loop Stmt Arm Loop (λ q. q.0) (λ q. q.0) (λ q. q.0) y ≡ x → StmtDoes (roll-Stmt x)
   stmt_step x y is =
-      subst (λ f. Does f (given true (roll-Stmt x)) (accesses program nest (roll-Stmt x)) (loops (roll-Stmt x))) (sym (fold-roll-Stmt Effect Arm_effect Effect (effect_node arrays) (arm_node arrays) (loop_node arrays) x))
-      (subst (λ g. Does (effect_at x) g (accesses program nest (roll-Stmt x)) (loops (roll-Stmt x))) (sym (fold-roll-Stmt (List ℕ) (List ℕ) (List ℕ) (given_node true) given_arm_node given_loop_node x))
-      (subst (λ a. Does (effect_at x) (names_at x) a (loops (roll-Stmt x))) (sym (fold-roll-Stmt Accesses Accesses Accesses (accesses_node program nest) (arm_accesses_node program nest) (loop_accesses_node program nest) x))
-      (subst (λ l. Does (effect_at x) (names_at x) (accesses_at x) l) (sym (para-roll-Stmt Loops Loops Loops loops_node loops_arm_node loops_loop_node x))
-      (subst StmtAt is (stmt_layer y)))))
+      by_layers Does (fold-roll-Stmt Effect Arm_effect Effect (effect_node arrays) (arm_node arrays) (loop_node arrays) x) (fold-roll-Stmt (List ℕ) (List ℕ) (List ℕ) (given_node true) given_arm_node given_loop_node x)
+      (fold-roll-Stmt Accesses Accesses Accesses (accesses_node program nest) (arm_accesses_node program nest) (loop_accesses_node program nest) x) (para-roll-Stmt Loops Loops Loops loops_node loops_arm_node loops_loop_node x) (subst StmtAt is (stmt_layer y))
 
   stmt_does : (s : Stmt) → StmtDoes s
   stmt_does = ind-Stmt StmtDoes ArmIs LoopIs stmt_step arm_step loop_step

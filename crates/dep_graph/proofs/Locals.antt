@@ -16,7 +16,7 @@ use Rattle.dep_graph.proofs.Scalars.{out_first, out_second}
 abbrev Fewer : List ℕ → List ℕ → Type 0
 Fewer more less = (name : ℕ) → is_among more name ≡ false → is_among less name ≡ false
 
-out_both : (xs ys : List ℕ) (name : ℕ) → is_among xs name ≡ false → is_among ys name ≡ false → is_among (xs ++ ys) name ≡ false
+pub out_both : (xs ys : List ℕ) (name : ℕ) → is_among xs name ≡ false → is_among ys name ≡ false → is_among (xs ++ ys) name ≡ false
 out_both xs ys name first second = list_any-append (λ other. name == other) xs ys ∙ ap (λ b. b || is_among ys name) first ∙ second
 
 fewer_both : (a b c d : List ℕ) → Fewer a b → Fewer c d → Fewer (a ++ c) (b ++ d)

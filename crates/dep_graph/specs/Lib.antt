@@ -3,3 +3,4 @@ pub mod Spans
 pub mod Accesses
 pub mod Kinds
 pub mod Apart
+pub mod Seen

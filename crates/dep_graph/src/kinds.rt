@@ -1,4 +1,4 @@
-ghost use Rattle.std.specs.Prelude.{◌≡◌, ◌++◌, ◌∷◌, [], false, IfOk, OnOk, map, filter};
+ghost use Rattle.std.specs.Prelude.{◌≡◌, ◌++◌, ◌∷◌, [], true, false, None, IfOk, OnOk, map, filter, slice_index_or};
 ghost use Rattle.std.specs.Option.{option_map};
 ghost use Rattle.dep_graph.specs.declared.accesses.Access.{Access as AccessValue};
 ghost use Rattle.dep_graph.specs.Kinds.{is_write, may_depend, first_where, kind_from, kind_of};
@@ -6,6 +6,7 @@ ghost use Rattle.dep_graph.specs.Accesses.{accesses_of};
 
 use crate::accesses::{Access, AccessAt, Invocation};
 use crate::around::Around;
+use crate::free::free_accesses;
 use crate::given::names_given;
 use crate::tests::is_parted;
 use data_local::WrittenArrays;
@@ -49,10 +50,17 @@ fn accesses_of(alloc: Global, nest: &Loop, checked: &Checked) -> Result<Vec<Acce
 fn kind_of(alloc: Global, step: u64, accesses: &[Access]) -> Result<LoopKind, NoMemory>
     ensures { IfOk result (λ kind. kind ≡ kind_from step [] accesses.now) }
 {
+    let free = free_accesses(alloc, step, accesses)?;
     let mut writes = Vec::new(alloc);
     for k in 0..accesses.len() {
         let second = &accesses[k];
-        if let Some(first) = first_up_to(&accesses[..=k], &writes, step, second) {
+        if let Some(first) = first_up_to(
+            &accesses[..=k],
+            &writes,
+            is_free(&free, k),
+            step,
+            second,
+        ) {
             return Ok(LoopKind::Plain {
                 first,
                 second: second.at,
@@ -72,17 +80,31 @@ fn note_write<'a>(access: &'a Access, writes: &mut Vec<&'a Access>) -> Result<()
     Ok(())
 }
 
-// The first of the accesses up to this one that may depend on it. For a read only the writes among them are looked at.
+fn is_free(free: &[bool], k: usize) -> bool
+    ensures { result ≡ slice_index_or free.now k false }
+{
+    match free.get(k) {
+        Some(is_free) => *is_free,
+        None => false,
+    }
+}
+
+// The first of the accesses up to this one that may depend on it. Where none is known to, none is looked at, and for a
+// read only the writes among them.
 fn first_up_to(
     accesses: &[Access],
     writes: &[&Access],
+    is_free: bool,
     step: u64,
     second: &Access,
 ) -> Option<AccessAt>
-    requires { second.now.at.write ≡ false → map (λ a. a.now) writes.now ≡ filter is_write accesses.now }
+    requires free { is_free ≡ true → first_where (may_depend step second.now) accesses.now ≡ None }
+    requires writes { second.now.at.write ≡ false → map (λ a. a.now) writes.now ≡ filter is_write accesses.now }
     ensures { result ≡ option_map (λ (a : AccessValue). a.at) (first_where (may_depend step second.now) accesses.now) }
 {
-    if second.at.write {
+    if is_free {
+        None
+    } else if second.at.write {
         first_of(accesses, step, second)
     } else {
         first_of_writes(writes, step, second)

@@ -7,9 +7,11 @@
 mod accesses;
 mod around;
 mod forms;
+mod free;
 mod given;
 mod kinds;
 mod law;
+mod seen;
 mod spans;
 mod tests;
 mod walk;

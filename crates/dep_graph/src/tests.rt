@@ -32,14 +32,14 @@ fn passes_test(step: u64, p: &Subscript, q: &Subscript) -> bool
 }
 
 impl Form {
-    fn matches(&self, other: &Form) -> bool
+    pub(crate) fn matches(&self, other: &Form) -> bool
         ensures { result ≡ do_match self.now other.now }
     {
         self.variable == other.variable
             && same_factors(self.scalars.as_slice(), other.scalars.as_slice())
     }
 
-    fn is_moderate(&self) -> bool
+    pub(crate) fn is_moderate(&self) -> bool
         ensures { result ≡ is_moderate self.now }
     {
         let size = self.variable.unsigned_abs();
@@ -53,7 +53,7 @@ impl Form {
     }
 
     // How far the subscripts of two neighbouring turns stand apart.
-    fn stride(&self, step: u64) -> u128
+    pub(crate) fn stride(&self, step: u64) -> u128
         ensures { result ≡ stride step self.now }
     {
         u128::from(self.variable.unsigned_abs()) * u128::from(step)
@@ -71,21 +71,16 @@ fn stands_apart(step: u64, p: &Subscript, q: &Subscript) -> bool
     ensures { result ≡ stands_apart step p.now q.now }
 {
     let stride = p.form.stride(step);
-    lowest(p, q).unsigned_abs() < stride && highest(p, q).unsigned_abs() < stride
+    let low = gap(&p.form, p.span.least, &q.form, q.span.greatest);
+    let high = gap(&p.form, p.span.greatest, &q.form, q.span.least);
+    low.unsigned_abs() < stride && high.unsigned_abs() < stride
 }
 
-fn lowest(p: &Subscript, q: &Subscript) -> i128
-    ensures { result ≡ (distance p.now.form q.now.form +ℤ p.now.span.least) -ℤ q.now.span.greatest }
+// How far apart two forms are, with these parts over the loops of the body.
+fn gap(f: &Form, part: i64, g: &Form, other: i64) -> i128
+    ensures { result ≡ (distance f.now g.now +ℤ part) -ℤ other }
 {
-    i128::from(p.form.literal) - i128::from(q.form.literal) + i128::from(p.span.least)
-        - i128::from(q.span.greatest)
-}
-
-fn highest(p: &Subscript, q: &Subscript) -> i128
-    ensures { result ≡ (distance p.now.form q.now.form +ℤ p.now.span.greatest) -ℤ q.now.span.least }
-{
-    i128::from(p.form.literal) - i128::from(q.form.literal) + i128::from(p.span.greatest)
-        - i128::from(q.span.least)
+    i128::from(f.literal) - i128::from(g.literal) + i128::from(part) - i128::from(other)
 }
 
 // No number of turns makes up the distance.

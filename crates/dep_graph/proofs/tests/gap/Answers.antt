@@ -2,7 +2,7 @@ use Rattle.std.proofs.Common.{rules, ◌≡◌, ◌+ℤ◌, ◌-ℤ◌, FitsSign
 use Rattle.std.proofs.lemmas.Int.{ints}
 use Rattle.dep_graph.specs.Kinds.{distance}
 use Rattle.dep_graph.proofs.Wide.{fits_four, value_four}
-use Rattle.dep_graph.proofs.tests.highest.Goals as goal
+use Rattle.dep_graph.proofs.tests.gap.Goals as goal
 
 pub overflow_sub-result-2 : goal.overflow_sub-result-2
 overflow_sub-result-2 c =
@@ -18,5 +18,5 @@ returns c =
     let two : FitsSigned w64 c.from-2.result = first_of (search rules, omega (arith, ints)) in
     let three : FitsSigned w64 c.from-3.result = first_of (search rules, omega (arith, ints)) in
     let four : FitsSigned w64 c.from-4.result = first_of (search rules, omega (arith, ints)) in
-    let same : ((c.from.result -ℤ c.from-2.result) +ℤ c.from-3.result) -ℤ c.from-4.result ≡ (distance c.args.p.now.form c.args.q.now.form +ℤ c.args.p.now.span.greatest) -ℤ c.args.q.now.span.least = first_of (omega (arith, ints), search rules) in
+    let same : ((c.from.result -ℤ c.from-2.result) +ℤ c.from-3.result) -ℤ c.from-4.result ≡ (distance c.args.f.now c.args.g.now +ℤ c.args.part) -ℤ c.args.other = first_of (omega (arith, ints), search rules) in
     value_four c.from.result c.from-2.result c.from-3.result c.from-4.result one two three four ∙ same
