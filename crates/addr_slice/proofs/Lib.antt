@@ -1,5 +1,6 @@
 pub mod Rows
 pub mod Sets
+pub mod Filled
 pub mod Nodes
 pub mod Walks
 pub mod Parts

@@ -15,7 +15,7 @@ IsNext-alike p q from (Some n) same next = (next.0, same n ∙ next.1, λ k h be
 pub length-flags_of : (count : ℕ) (rows : List ℕ) → length (flags_of count rows) ≡ count
 length-flags_of count rows = length-map-range_with_len (in_rows rows) 0 count
 
-flag-inside : (count : ℕ) (rows : List ℕ) (k : ℕ) → k < count → is_set (flags_of count rows) k ≡ in_rows rows k
+pub flag-inside : (count : ℕ) (rows : List ℕ) (k : ℕ) → k < count → is_set (flags_of count rows) k ≡ in_rows rows k
 flag-inside count rows k h = get_or-map-range_with_len (in_rows rows) 0 count k k false h (omega arith)
 
 -- a flag is set where the number is in the rows
@@ -95,7 +95,7 @@ flags_of-put count rows after number below put =
     (cases_eq k number))
 
 -- rows that are all 0 have no number
-in_rows-empty : (rows : List ℕ) → ((row : ℕ) → get_or rows row 0 ≡ 0) → (k : ℕ) → in_rows rows k ≡ false
+pub in_rows-empty : (rows : List ℕ) → ((row : ℕ) → get_or rows row 0 ≡ 0) → (k : ℕ) → in_rows rows k ≡ false
 in_rows-empty rows empty k = ap (λ row. has_bit row (k % 64)) (empty (k / 64)) ∙ has_bit-zero (k % 64)
 
 pub flags_of-empty : (count : ℕ) (rows : List ℕ) → ((row : ℕ) → get_or rows row 0 ≡ 0) → flags_of count rows ≡ replicate count false

@@ -1,5 +1,5 @@
 -- The claims of each iteration hold its turn.
-use Rattle.std.proofs.Common.{◌≡◌, ◌<◌, false, None, List, refl, sym, subst, length, arith}
+use Rattle.std.proofs.Common.{◌≡◌, ◌<◌, false, None, List, refl, sym, subst, arith}
 use Rattle.std.proofs.lemmas.List.{length-replicate}
 use Rattle.nest_syntax.specs.Turn.{Turn, Finished}
 use Rattle.nest_syntax.specs.declared.tree.Decl.{Decl}

@@ -2,6 +2,7 @@
 use Rattle.std.specs.Prelude.{◌≡◌, ℕ, ◌*◌, ◌/◌, ◌%◌, ◌≤◌, Bool, false, ◌==◌, nat_lt, List, length, map, slice_index}
 use Rattle.std.specs.Int.{bit_at}
 use Rattle.std.specs.List.{range_with_len}
+use Rattle.addr_slice.specs.Claims.{is_set}
 
 -- whether a bit of a row is set
 abbrev pub has_bit : ℕ → ℕ → Bool
@@ -25,3 +26,12 @@ pub record IsSummed (count : ℕ) (rows summary : List ℕ) : Type 0 where
   pub a_bit_each : length rows ≤ 64 * length summary
   pub none_behind : (n : ℕ) → count ≤ n → in_rows rows n ≡ false
   pub exact : (row : ℕ) → in_rows summary row ≡ nat_lt 0 (slice_index rows row)
+
+-- The same of a set whose rows that aren't 0 are kept as a set of their own.
+pub record IsFilled (count : ℕ) (rows : List ℕ) (filled : List Bool) : Type 0 where
+  pub few : count ≤ 1048576
+  pub few_rows : length rows ≤ 16384
+  pub a_row_each : count ≤ 64 * length rows
+  pub as_many : length filled ≡ length rows
+  pub none_behind : (n : ℕ) → count ≤ n → in_rows rows n ≡ false
+  pub exact : (row : ℕ) → is_set filled row ≡ nat_lt 0 (slice_index rows row)

@@ -2,7 +2,7 @@ ghost use Rattle.std.specs.Prelude.{◌≡◌, ◌<◌, ◌≤◌, ◌↔◌, Is
 ghost use Rattle.word_store.specs.Memory.{most_words};
 ghost use Rattle.addr_slice.specs.Claims.{words_of, has, is_claimed, no_claims, with_claim, IsNext, Clash};
 
-use crate::word_set::WordSet;
+use crate::deep_set::DeepSet;
 use nest_syntax::NoMemory;
 use std::alloc::Global;
 use std::marker::Model;
@@ -11,10 +11,10 @@ use std::marker::Model;
 /// program, in order of declaration. No call but `with_room` takes memory.
 #[derive(Debug, Drop)]
 pub struct Claims {
-    reads: WordSet,
-    writes: WordSet,
+    reads: DeepSet,
+    writes: DeepSet,
     // What is claimed at all: a walk then passes over what neither of the two has.
-    either: WordSet,
+    either: DeepSet,
 }
 
 impl Model for Claims {
@@ -37,9 +37,9 @@ impl Claims {
     {
         let words = lengths.iter().sum::<u64>() as usize;
         Ok(Claims {
-            reads: WordSet::empty(alloc, words)?,
-            writes: WordSet::empty(alloc, words)?,
-            either: WordSet::empty(alloc, words)?,
+            reads: DeepSet::empty(alloc, words)?,
+            writes: DeepSet::empty(alloc, words)?,
+            either: DeepSet::empty(alloc, words)?,
         })
     }
 
@@ -64,8 +64,7 @@ impl Claims {
     }
 
     /// The least word not below the given one that is claimed for reading or for writing. None comes exactly where there
-    /// is none. A constant cost, and one step for each 4,096 words that it passes over: a walk over all claimed words
-    /// costs as much as there are, and one step for each 4,096 words of the program.
+    /// is none. A constant cost: a walk over all claimed words costs as much as there are.
     pub fn next_from(&self, word: u32) -> Option<u32>
         ensures next { IsNext (is_claimed self.now) word result }
         ensures within { IfSome result (λ next. next < words_of self.now) }
@@ -88,7 +87,7 @@ impl Claims {
         self.either.insert(word as usize);
     }
 
-    /// Forgets all claims. Costs as much as there are, and one step for each 4,096 words of the program.
+    /// Forgets all claims. Costs as much as there are.
     pub fn clear(&mut self)
         ensures { self.new ≡ no_claims (words_of self.old) }
     {

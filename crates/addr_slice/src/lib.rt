@@ -6,6 +6,7 @@
 
 mod bits;
 mod claim_set;
+mod deep_set;
 mod law;
 mod walk;
 mod word_set;

@@ -1,0 +1,42 @@
+use Rattle.std.proofs.Common.{◌≡◌, ◌<◌, ℕ, List, length, ap, sym, subst, ◌∙◌, set, true, arith}
+use Rattle.std.specs.Vec.{with_items}
+use Rattle.std.proofs.lemmas.List.{with_items_is}
+use Rattle.addr_slice.specs.WordSet.{flags_of, IsFilled}
+use Rattle.addr_slice.proofs.Sets.{length-flags_of, Puts, flags_of-put}
+use Rattle.addr_slice.proofs.Filled.{filled_put}
+use Rattle.addr_slice.proofs.deep_set.DeepSet.insert.Goals as goal
+
+pub put_in_rows-requires : goal.put_in_rows-requires
+put_in_rows-requires c =
+    omega (arith, ap length c.self.view_is, length-flags_of c.self.inside.count c.self.inside.rows.items, ap length c.deref_mut.ensures.value, c.self.invariant.a_row_each)
+
+pub insert-requires : goal.insert-requires
+insert-requires c =
+    omega (arith, ap length c.self.view_is, length-flags_of c.self.inside.count c.self.inside.rows.items, c.requires, c.self.invariant.a_row_each, c.self.invariant.as_many)
+
+module _ (c : goal.After-insert) where
+  below : c.args.number < c.self.inside.count
+  below = omega (arith, ap length c.self.view_is, length-flags_of c.self.inside.count c.self.inside.rows.items, c.requires)
+
+  put : Puts c.self.inside.rows.items c.put_in_rows.new.rows c.args.number
+  put = subst (λ (rows : List ℕ). Puts rows c.put_in_rows.new.rows c.args.number) c.deref_mut.ensures.value record {
+    some = c.put_in_rows.ensures.some;
+    other_rows = c.put_in_rows.ensures.other_rows;
+    set_there = c.put_in_rows.ensures.set;
+    others = c.put_in_rows.ensures.others;
+    as_many = c.put_in_rows.auto.rows;
+  }
+
+  rows_are : (with_items c.self.inside.rows c.put_in_rows.new.rows).items ≡ c.put_in_rows.new.rows
+  rows_are = with_items_is c.self.inside.rows c.put_in_rows.new.rows (c.put_in_rows.auto.rows ∙ c.deref_mut.ensures.len)
+
+pub invariant_of-self : goal.invariant_of-self
+invariant_of-self c =
+    subst (λ (rows : List ℕ). IsFilled c.self.inside.count rows c.insert.new.self) (sym (rows_are c))
+    (subst (IsFilled c.self.inside.count c.put_in_rows.new.rows) (sym c.insert.ensures)
+    (filled_put c.self.inside.count c.self.inside.rows.items c.self.inside.filled c.self.invariant c.put_in_rows.new.rows c.args.number (below c) (put c)))
+
+pub returns : goal.returns
+returns c =
+    ap (flags_of c.self.inside.count) (rows_are c) ∙ flags_of-put c.self.inside.count c.self.inside.rows.items c.put_in_rows.new.rows c.args.number (below c) (put c)
+    ∙ ap (λ flags. set flags c.args.number true) c.self.view_is

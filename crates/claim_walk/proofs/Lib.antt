@@ -1,0 +1,12 @@
+pub mod Equations
+pub mod Slices
+pub mod Held
+pub mod Expressions
+pub mod Fits
+pub mod Agreeing
+pub mod Statements
+pub mod Ruled
+pub mod Bodies
+pub mod Whole
+pub mod Others
+pub mod Samples

@@ -1,0 +1,28 @@
+//! What an iteration may read and write, and what it costs, found by a walk over its body that runs nothing.
+//!
+//! The walk is a definition, in `specs/Walk.antt`. The functions here are its laws: each one's contract says what holds,
+//! and it does nothing.
+#![tactic(auto)]
+
+ghost use Rattle.claim_walk.specs.Laws.{ClaimsHoldTurns, StepsBoundTurns, WalksKeepOthers, StepsAreOfLocals};
+
+/// In a program that keeps the rules the claims of an iteration hold its turn, whatever it reads: each access to a word of
+/// a written array is claimed.
+pub fn claims_hold_turns()
+    ensures { ClaimsHoldTurns }
+{}
+
+/// In such a program no turn of an iteration has more operations and stops before its end than its walk meets.
+pub fn steps_bound_turns()
+    ensures { StepsBoundTurns }
+{}
+
+/// In such a program the walk changes no scalar but those of the body's locals.
+pub fn walks_keep_others()
+    ensures { WalksKeepOthers }
+{}
+
+/// The walk of an iteration is told by which names are data locals, whatever list has them.
+pub fn steps_are_of_locals()
+    ensures { StepsAreOfLocals }
+{}
