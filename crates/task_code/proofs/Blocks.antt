@@ -57,36 +57,36 @@ module _ (program : Program) (locals : List ℕ) (code : List Instruction) where
       (λ taken. on_body scalars after go held_after (λ last end held_last keeps_last. goes last end held_last (λ n below. keeps_last n below ∙ keeps.temps n below))))
 
   -- `=` and `op=` of a name
-  module _ (line : Line) (into next entry : ℕ) (few : into < 32) (name : ℕ) (r : Register) (is : register_of program locals name ≡ Some r) where
+  module _ (line : Line) (into next entry : ℕ) (few : into < 32) (name slot : ℕ) (is : register_of program locals name ≡ Some (register.Local slot)) where
     gives : (scalars : List ℤ) (frame after : Frame) (go : List ℤ → Turn) (value : Operand) (v : ℤ) (node : ℕ) → Holds program locals scalars after → Keeps into frame after → value_of after value ≡ v
         → ((later : List ℤ) (last : Frame) → Holds program locals later last → KeepsBelow into frame last → Follows code (go later) next last)
-        → instruction_at code node ≡ instruction.Then (operation.Give r value) next → Follows code (Op (go (with_scalar scalars name v))) node after
+        → instruction_at code node ≡ instruction.Then (operation.Give (register.Local slot) value) next → Follows code (Op (go (with_scalar scalars name v))) node after
     gives scalars frame after go value v node holds keeps same goes at = (
-      operation.Give r value,
+      operation.Give (register.Local slot) value,
       next,
-      with_register after r (value_of after value),
+      with_register after (register.Local slot) (value_of after value),
       at,
       refl,
-      subst (λ x. Follows code (go (with_scalar scalars name v)) next (with_register after r x)) (sym same)
-          (goes (with_scalar scalars name v) (with_register after r v) (holds_given program locals scalars after name r v holds is)
-          (λ n below. gives_below program locals into after r v (holds.inside name r is) n below ∙ keeps.temps n below)),
+      subst (λ x. Follows code (go (with_scalar scalars name v)) next (with_register after (register.Local slot) x)) (sym same)
+          (goes (with_scalar scalars name v) (with_register after (register.Local slot) v) (holds_given program locals scalars after name slot v holds is)
+          (λ n below. gives_below program locals into after (register.Local slot) v (holds.inside name (register.Local slot) is) n below ∙ keeps.temps n below)),
     )
 
     assigns : (op : Option Bin) (scalars : List ℤ) (frame after : Frame) (go : List ℤ → Turn) (value : Operand) (node : ℕ) → Holds program locals scalars after → Keeps into frame after
         → ((later : List ℤ) (last : Frame) → Holds program locals later last → KeepsBelow into frame last → Follows code (go later) next last)
-        → GivesBy op r value into line next code node → Follows code (assigning line op (scalar_at scalars name) (value_of after value) (λ new. Op (go (with_scalar scalars name new)))) node after
+        → GivesBy op (register.Local slot) value into line next code node → Follows code (assigning line op (scalar_at scalars name) (value_of after value) (λ new. Op (go (with_scalar scalars name new)))) node after
     assigns None scalars frame after go value node holds keeps goes at = gives scalars frame after go value (value_of after value) node holds keeps refl goes at
     assigns (Some o) scalars frame after go value node holds keeps goes (give, at, at_give) =
         computes program locals line into few code give frame (λ new. Op (go (with_scalar scalars name new)))
         (λ last kept. gives scalars frame last go (operand.Held (register.Temporary into)) (held last (register.Temporary into)) give (holds_last last kept) kept refl goes at_give)
-        node after o (operand.Held r) value (scalar_at scalars name) (value_of after value) holds.temps keeps (holds.values name r is) refl at where
+        node after o (operand.Held (register.Local slot)) value (scalar_at scalars name) (value_of after value) holds.temps keeps (holds.values name (register.Local slot) is) refl at where
           back : (last : Frame) → Keeps into frame last → Keeps into after last
           back last kept = record { env = kept.env ∙ sym keeps.env; locals = kept.locals ∙ sym keeps.locals; many = kept.many ∙ sym keeps.many; temps = λ n below. kept.temps n below ∙ sym (keeps.temps n below) }
 
           holds_last : (last : Frame) → Keeps into frame last → Holds program locals scalars last
           holds_last last kept = holds_kept program locals into scalars after last holds (back last kept)
 
-    pub assign_carries : (op : Option Bin) (f : Reckoning) (value : Operand) (start : ℕ) → GivesBy op r value into line next code entry → ReckonsBy program locals line f value into entry code start
+    pub assign_carries : (op : Option Bin) (f : Reckoning) (value : Operand) (start : ℕ) → GivesBy op (register.Local slot) value into line next code entry → ReckonsBy program locals line f value into entry code start
         → Carries program locals (λ scalars go. f line scalars (λ right. assigning line op (scalar_at scalars name) right (λ new. Op (go (with_scalar scalars name new))))) into next code start
     assign_carries op f value start at reckons scalars frame go holds goes = reckons scalars frame (λ right. assigning line op (scalar_at scalars name) right (λ new. Op (go (with_scalar scalars name new)))) holds
         (λ after keeps. assigns op scalars frame after go value entry (holds_kept program locals into scalars frame after holds keeps) keeps goes at)

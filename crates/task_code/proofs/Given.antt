@@ -100,25 +100,25 @@ module _ (program : Program) (locals : List ℕ) where
   pub gives_held : (frame : Frame) (r : Register) (value : ℤ) (n : ℕ) → IsInside r → held (with_register frame r value) (register.Temporary n) ≡ held frame (register.Temporary n)
   gives_held frame r value n inside = ap (λ temps. slice_index_or temps n (pos 0)) (temps_kept frame r value inside)
 
-  pub holds_given : (scalars : List ℤ) (frame : Frame) (name : ℕ) (r : Register) (value : ℤ) → Holds program locals scalars frame → register_of program locals name ≡ Some r
-      → Holds program locals (with_scalar scalars name value) (with_register frame r value)
-  holds_given scalars frame name r value holds is = record {
-    env = env_length frame r value ∙ holds.env;
-    locals_held = locals_length frame r value ∙ holds.locals_held;
-    temps = ap length (temps_kept frame r value (holds.inside name r is)) ∙ holds.temps;
-    many = λ other q at_q. subst (λ n. other < n) (sym (length-set scalars name value)) (holds.many other q at_q);
+  pub holds_given : (scalars : List ℤ) (frame : Frame) (name slot : ℕ) (value : ℤ) → Holds program locals scalars frame → register_of program locals name ≡ Some (register.Local slot)
+      → Holds program locals (with_scalar scalars name value) (with_register frame (register.Local slot) value)
+  holds_given scalars frame name slot value holds is = record {
+    env = env_length frame (register.Local slot) value ∙ holds.env;
+    locals_held = locals_length frame (register.Local slot) value ∙ holds.locals_held;
+    temps = ap length (temps_kept frame (register.Local slot) value (holds.inside name (register.Local slot) is)) ∙ holds.temps;
+    many = λ other k at_k. subst (λ n. other < n) (sym (length-set scalars name value)) (holds.many other k at_k);
     inside = holds.inside;
     values = λ other q at_q. by other (other == name) refl q at_q;
   } where
-    by : (other : ℕ) (b : Bool) → other == name ≡ b → (q : Register) → register_of program locals other ≡ Some q → held (with_register frame r value) q ≡ scalar_at (with_scalar scalars name value) other
+    by : (other : ℕ) (b : Bool) → other == name ≡ b → (q : Register) → register_of program locals other ≡ Some q → held (with_register frame (register.Local slot) value) q ≡ scalar_at (with_scalar scalars name value) other
     by other true e q at_q =
         let same : other ≡ name = eqb-true other name e in
         let at_name : register_of program locals name ≡ Some q = subst (λ n. register_of program locals n ≡ Some q) same at_q in
-        let one : q ≡ r = some_one q r (sym at_name ∙ is) in
-        subst (λ n. held (with_register frame r value) q ≡ scalar_at (with_scalar scalars name value) n) (sym same)
-        (subst (λ p. held (with_register frame r value) p ≡ scalar_at (with_scalar scalars name value) name) (sym one)
-        (set_here frame r value holds.env holds.locals_held (holds.inside name r is) ∙ sym (get_or-set_same scalars name value (pos 0) (holds.many name r is))))
+        let one : q ≡ register.Local slot = some_one q (register.Local slot) (sym at_name ∙ is) in
+        subst (λ n. held (with_register frame (register.Local slot) value) q ≡ scalar_at (with_scalar scalars name value) n) (sym same)
+        (subst (λ p. held (with_register frame (register.Local slot) value) p ≡ scalar_at (with_scalar scalars name value) name) (sym one)
+        (set_here frame (register.Local slot) value holds.env holds.locals_held (holds.inside name (register.Local slot) is) ∙ sym (get_or-set_same scalars name value (pos 0) (holds.many name slot is))))
     by other false e q at_q =
         let differs : other ≢ name = λ same. differ other name e same in
-        let two : q ≡ r → ⊥ = λ one. differs (apart other name r (holds.inside name r is) (at_q ∙ ap Some one) is) in
-        set_other frame r q value two ∙ holds.values other q at_q ∙ sym (get_or-set_other scalars name other value (pos 0) differs)
+        let two : q ≡ register.Local slot → ⊥ = λ one. differs (apart other name (register.Local slot) (holds.inside name (register.Local slot) is) (at_q ∙ ap Some one) is) in
+        set_other frame (register.Local slot) q value two ∙ holds.values other q at_q ∙ sym (get_or-set_other scalars name other value (pos 0) differs)

@@ -10,3 +10,12 @@ pub mod Codes
 pub mod Blocks
 pub mod Rounds
 pub mod Places
+pub mod Readiness
+pub mod Added
+pub mod Fits
+pub mod Layouts
+pub mod Invoked
+pub mod Zeros
+pub mod Opening
+pub mod Readied
+pub mod Whole

@@ -76,10 +76,10 @@ next_is low step k top (suc m) positive sum =
     let less : suc k < top = omega (arith, sum) in
     ap (λ v. if int_lt v (variable low step top) then v else variable low step top) (step_on low step k) ∙ ap (λ b. if b then variable low step (suc k) else variable low step top) (before low step (suc k) top positive less)
 
-module _ (program : Program) (locals : List ℕ) (code : List Instruction) (into next again block : ℕ) (few : into + 1 < 32) (name : ℕ) (r : Register) (is : register_of program locals name ≡ Some r)
+module _ (program : Program) (locals : List ℕ) (code : List Instruction) (into next again block : ℕ) (few : into + 1 < 32) (name slot : ℕ) (is : register_of program locals name ≡ Some (register.Local slot))
     (step : ℕ) (positive : 0 < step) (body : Effect) (on_body : Carries program locals body (into + 2) again code block) where
   abbrev pub the_round : Round
-  the_round = record { variable = r; value = register.Temporary into; last = register.Temporary (into + 1); step = step; body = block; behind = next }
+  the_round = record { variable = (register.Local slot); value = register.Temporary into; last = register.Temporary (into + 1); step = step; body = block; behind = next }
 
   fewer : into < 32
   fewer = omega (arith, few)
@@ -90,7 +90,7 @@ module _ (program : Program) (locals : List ℕ) (code : List Instruction) (into
     InTurn low k top scalars frame = Holds program locals (with_scalar scalars name (variable low step k)) frame × (held frame (register.Temporary into) ≡ variable low step k) × (held frame (register.Temporary (into + 1)) ≡ variable low step top)
 
     begin_turn : Frame → ℤ → Frame
-    begin_turn frame value = with_register (with_register frame (register.Temporary into) value) r value
+    begin_turn frame value = with_register (with_register frame (register.Temporary into) value) (register.Local slot) value
 
     in_turn : (low : ℤ) (k top : ℕ) (scalars : List ℤ) (frame : Frame) → Holds program locals scalars frame → held frame (register.Temporary (into + 1)) ≡ variable low step top → InTurn low k top scalars (begin_turn frame (variable low step k))
     unfolding begin_turn
@@ -98,16 +98,16 @@ module _ (program : Program) (locals : List ℕ) (code : List Instruction) (into
         let value = variable low step k in
         let mid = with_register frame (register.Temporary into) value in
         let holds_mid = holds_kept program locals into scalars frame mid holds (keeps_set into into frame value (omega arith)) in
-        let inside = holds.inside name r is in (
-          holds_given program locals scalars mid name r value holds_mid is,
-          gives_held program locals mid r value into inside ∙ temporary_set frame into value holds.temps fewer,
-          gives_held program locals mid r value (into + 1) inside ∙ get_or-set_other frame.temps into (into + 1) value (pos 0) (λ e. omega (arith, e)) ∙ last,
+        let inside = holds.inside name (register.Local slot) is in (
+          holds_given program locals scalars mid name slot value holds_mid is,
+          gives_held program locals mid (register.Local slot) value into inside ∙ temporary_set frame into value holds.temps fewer,
+          gives_held program locals mid (register.Local slot) value (into + 1) inside ∙ get_or-set_other frame.temps into (into + 1) value (pos 0) (λ e. omega (arith, e)) ∙ last,
         )
 
     turn_below : (start frame : Frame) (value : ℤ) (scalars : List ℤ) → Holds program locals scalars frame → KeepsBelow into start frame → KeepsBelow into start (begin_turn frame value)
     unfolding begin_turn
     turn_below start frame value scalars holds keeps n below =
-        gives_below program locals into (with_register frame (register.Temporary into) value) r value (holds.inside name r is) n below ∙ (keeps_set into into frame value (omega arith)).temps n below ∙ keeps n below
+        gives_below program locals into (with_register frame (register.Temporary into) value) (register.Local slot) value (holds.inside name (register.Local slot) is) n below ∙ (keeps_set into into frame value (omega arith)).temps n below ∙ keeps n below
 
     -- behind a turn
     module _ (low : ℤ) (k top : ℕ) (after : Frame) (value_now : held after (register.Temporary into) ≡ variable low step k) (last_now : held after (register.Temporary (into + 1)) ≡ variable low step top) where

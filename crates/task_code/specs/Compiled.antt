@@ -42,7 +42,7 @@ pub record Holds (program : Program) (locals : List ℕ) (scalars : List ℤ) (f
   pub env : length frame.env ≡ 32
   pub locals_held : length frame.locals ≡ 16
   pub temps : length frame.temps ≡ 32
-  pub many : (name : ℕ) (r : Register) → register_of program locals name ≡ Some r → name < length scalars
+  pub many : (name slot : ℕ) → register_of program locals name ≡ Some (register.Local slot) → name < length scalars
   pub inside : (name : ℕ) (r : Register) → register_of program locals name ≡ Some r → IsInside r
   pub values : (name : ℕ) (r : Register) → register_of program locals name ≡ Some r → held frame r ≡ scalar_at scalars name
 

@@ -78,10 +78,11 @@ ready_node program locals (Expr-F.Choice test first second) into = nat_lt into 3
 abbrev pub expr_ready : Program → List ℕ → Expr → ℕ → Bool
 expr_ready program locals = fold-Expr (ℕ → Bool) (ready_node program locals)
 
--- A statement can be compiled with the temporaries from one on; a loop keeps two of them through its body.
+-- A statement can be compiled with the temporaries from one on: the names that it gives a value are locals, and a loop
+-- keeps two temporaries through its body.
 abbrev pub ready_stmt_node : Program → List ℕ → Stmt-F (ℕ → Bool) (ℕ → Bool) (ℕ → Bool) → ℕ → Bool
-ready_stmt_node program locals (Stmt-F.Declare line name value) into = is_some (register_of program locals name) && (nat_lt into 32 && expr_ready program locals value into)
-ready_stmt_node program locals (Stmt-F.Assign line name op value) into = is_some (register_of program locals name) && (nat_lt into 32 && expr_ready program locals value into)
+ready_stmt_node program locals (Stmt-F.Declare line name value) into = is_some (index_of_name locals name) && (nat_lt into 32 && expr_ready program locals value into)
+ready_stmt_node program locals (Stmt-F.Assign line name op value) into = is_some (index_of_name locals name) && (nat_lt into 32 && expr_ready program locals value into)
 ready_stmt_node program locals (Stmt-F.Write line array place op value) into = nat_lt (into + 2) 32 && (expr_ready program locals place into && expr_ready program locals value (into + 1))
 ready_stmt_node program locals (Stmt-F.If arms other) into = list_all (λ (f : ℕ → Bool). f into) arms && list_all (λ (f : ℕ → Bool). f into) other
 ready_stmt_node program locals (Stmt-F.Loop l) into = l into
@@ -91,7 +92,7 @@ ready_arm_node program locals arm into = expr_ready program locals arm.test into
 
 abbrev pub ready_loop_node : Program → List ℕ → Loop-F (ℕ → Bool) (ℕ → Bool) (ℕ → Bool) → ℕ → Bool
 ready_loop_node program locals l into =
-    is_some (register_of program locals l.name) && (nat_lt 0 l.step && (nat_lt (into + 1) 32
+    is_some (index_of_name locals l.name) && (nat_lt 0 l.step && (nat_lt (into + 1) 32
     && (expr_ready program locals l.low into && (expr_ready program locals l.high (into + 1) && list_all (λ (f : ℕ → Bool). f (into + 2)) l.body))))
 
 abbrev pub stmt_ready : Program → List ℕ → Stmt → ℕ → Bool

@@ -35,6 +35,22 @@ impl Model for TaskCode {
 }
 
 impl TaskCode {
+    pub(crate) fn made_of(instructions: Vec<Instruction>, entries: Vec<Entry>) -> TaskCode
+        ensures { result ≡ record { instructions = instructions.items; entries = entries.items } }
+    {
+        TaskCode {
+            instructions,
+            entries,
+        }
+    }
+
+    /// How many bodies there are.
+    pub fn bodies(&self) -> usize
+        ensures { result ≡ length self.now.entries }
+    {
+        self.entries.len()
+    }
+
     /// The address at which a body begins.
     pub fn entry(&self, body: u32) -> u32
         requires { body < length self.now.entries }

@@ -10,6 +10,7 @@ use nest_syntax::{Expr, Line};
 use task_hop::{Operand, Register, Subscript, Way};
 
 /// Where the names of a body stand: its locals in order, and the scalars and arrays of the program.
+#[derive(Drop)]
 pub(crate) struct Layout<'a> {
     pub checked: &'a Checked,
     pub locals: &'a [u32],
@@ -30,16 +31,16 @@ impl Layout<'_> {
         }
     }
 
-    /// The register of a name that has one.
-    pub fn known(&self, name: u32) -> Register
+    /// The register of a local.
+    pub fn local(&self, name: u32) -> u8
         requires few { length self.now.locals.now ≤ 16 }
-        requires known { IsTrue (is_some (register_of self.now.checked.now self.now.locals.now name)) }
-        ensures { register_of self.now.checked.now self.now.locals.now name ≡ Some result }
+        requires local { IsTrue (is_some (index_of_name self.now.locals.now name)) }
+        ensures { register_of self.now.checked.now self.now.locals.now name ≡ Some (Register.Local result) }
     {
-        let Some(register) = self.register(name) else {
+        let Some(slot) = place_of(self.locals, name) else {
             unreachable!()
         };
-        register
+        slot as u8
     }
 
     /// Where the value of an expression is that is reckoned into a temporary.
@@ -111,8 +112,8 @@ fn is_leaf(expr: &Expr) -> bool
     }
 }
 
-// The place at which a name stands first.
-fn place_of(names: &[u32], name: u32) -> Option<usize>
+/// The place at which a name stands first.
+pub(crate) fn place_of(names: &[u32], name: u32) -> Option<usize>
     ensures place { result ≡ index_of_name names.now name }
     ensures inside { IfSome result (λ place. place < length names.now) }
 {

@@ -4,8 +4,14 @@
 //! entry do what an iteration of the body does, cut where the definition of its turn says.
 #![tactic(auto)]
 
+mod bodies;
+mod changes;
 mod code;
+mod compiler;
 mod expressions;
 mod layout;
+mod locals;
+mod statements;
 
 pub use code::{Entry, Instruction, TaskCode};
+pub use compiler::compile;

@@ -1,11 +1,9 @@
 -- That pieces from which the hops unfold realise their cut turns.
-use Rattle.std.proofs.Common.{◌≡◌, ℕ, suc, ◌-◌, ◌<◌, ◌≤◌, ℤ, Bool, true, false, Option, List, ap, ◌∙◌, arith}
-use Rattle.nest_syntax.specs.Arrays.{word_number}
+use Rattle.std.proofs.Common.{ℕ, suc, ◌-◌, ◌<◌, ◌≤◌, ℤ, Bool, true, false, Option, List, ap, ◌∙◌, arith}
 use Rattle.nest_syntax.specs.Turn.{Turn, Finished, Trapped, Load, Store, Op, Go}
 use Rattle.settle_law.specs.Cuts.{Cut, cut, pausing, is_full, one_more}
-use Rattle.settle_law.specs.Tasks.{Loads, Stores, System, Realises}
+use Rattle.settle_law.specs.Tasks.{Loads, Stores, Realises}
 use Rattle.settle_law.specs.Reading.{KeepsFixed}
-use Rattle.task_hop.specs.declared.frame.Frame.{Frame}
 use Rattle.task_hop.specs.declared.frame.Register.TheVariants as register
 use Rattle.task_hop.specs.Registers.{with_register}
 use Rattle.task_code.specs.Code.{Code}
@@ -14,7 +12,7 @@ use Rattle.task_frame.specs.declared.piece.Piece.{Piece}
 use Rattle.task_frame.specs.Pieces.{piece_at, reached}
 use Rattle.turn_cost.specs.Costs.{AtMost}
 use Rattle.turn_cost.proofs.Costly.{at_most_more}
-use Rattle.task_frame.specs.System.{Fuelled, behind, stop_told, system_of, StopsAtMost}
+use Rattle.task_frame.specs.System.{behind, stop_told, system_of, StopsAtMost}
 
 less_left : (m left : ℕ) → suc m ≤ left → left - 1 < left
 less_left m left less = omega (arith, less)

@@ -1,8 +1,6 @@
 -- The pieces of a code.
-use Rattle.std.specs.Prelude.{ℕ, ℤ, pos, Option, Some, None, List, replicate}
+use Rattle.std.specs.Prelude.{ℕ, ℤ, List}
 use Rattle.task_hop.specs.declared.frame.Frame.{Frame}
-use Rattle.task_hop.specs.declared.frame.Register.TheVariants as register
-use Rattle.task_hop.specs.Registers.{with_register}
 use Rattle.task_hop.specs.Meaning.{Reached, meaning}
 use Rattle.task_code.specs.Code.{Code, hop_at, entry_at, slot_at}
 use Rattle.task_code.specs.Unfolded.{opening_frame}

@@ -1,6 +1,6 @@
 -- The pieces of a code as a task system. A piece has no fuel of its own: it is kept beside it, as the number of stops that
 -- may still come.
-use Rattle.std.specs.Prelude.{◌≡◌, ℕ, suc, ◌-◌, ◌≤◌, ℤ, Option, List}
+use Rattle.std.specs.Prelude.{ℕ, suc, ◌-◌, ◌≤◌, ℤ, Option, List}
 use Rattle.nest_syntax.specs.Arrays.{word_number}
 use Rattle.nest_syntax.specs.Turn.{Turn}
 use Rattle.settle_law.specs.Cuts.{Cut, cut}

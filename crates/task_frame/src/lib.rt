@@ -6,9 +6,10 @@
 
 mod laws;
 mod piece;
+mod same;
 mod worked;
 
-pub use laws::{turns_are_realised, turns_may_pause};
+pub use laws::{bodies_are_realised, bodies_stop_at_most, turns_are_realised, turns_may_pause};
 pub use piece::{Piece, opening};
 pub use task_hop::{Frame, Stop};
 pub use worked::{Worked, work};
