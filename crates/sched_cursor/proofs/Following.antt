@@ -21,7 +21,7 @@ use Rattle.sched_cursor.specs.declared.step.Step.{Step}
 use Rattle.sched_cursor.specs.declared.event.Event.TheVariants as kind
 use Rattle.sched_cursor.specs.Steps.{exprs_of, line_of, purpose_of, step_of}
 use Rattle.sched_cursor.specs.Cursor.{Cursor, standing}
-use Rattle.sched_cursor.specs.Events.{stepped, after_turn, at_line, after_found, cursor_or, trap_in, kind_found, purpose_found, event_of, event_when, event_at, counted_on}
+use Rattle.sched_cursor.specs.Events.{stepped, after_turn, at_line, after_found, cursor_or, trap_in, kind_found, purpose_found, event_of, plain_event_when, plain_event_at}
 use Rattle.sched_cursor.specs.Scripts.{FollowsIn, Leads}
 
 module _ (setting : Setting) (nest : Nest) where
@@ -68,11 +68,11 @@ module _ (setting : Setting) (nest : Nest) where
       made : List ℤ → Result Step Cause
       made words = step_of setting.arrays this c.scalars words
 
-      is : event_at setting.arrays setting.words c ≡ event_of (if list_any (names_written setting.arrays) (exprs_of this) then kind.Drain else kind.Scalar) (purpose_of this) (λ words. later c (line_of this) go (made words)) (0, c.scalars) setting.words c
-      is = ap (event_when setting.arrays setting.words c) at_is
+      is : plain_event_at setting.arrays setting.words c ≡ event_of (if list_any (names_written setting.arrays) (exprs_of this) then kind.Drain else kind.Scalar) (purpose_of this) (λ words. later c (line_of this) go (made words)) (0, c.scalars) setting.words c
+      is = ap (plain_event_when setting.arrays setting.words c) at_is
           ∙ ap (λ found. event_of (kind_found setting.arrays found) (purpose_found found) (λ words. after_found setting.arrays c words found) (0, c.scalars) setting.words c) there
 
-      by_kind : (drains : Bool) → event_at setting.arrays setting.words c ≡ event_of (if drains then kind.Drain else kind.Scalar) (purpose_of this) (λ words. later c (line_of this) go (made words)) (0, c.scalars) setting.words c
+      by_kind : (drains : Bool) → plain_event_at setting.arrays setting.words c ≡ event_of (if drains then kind.Drain else kind.Scalar) (purpose_of this) (λ words. later c (line_of this) go (made words)) (0, c.scalars) setting.words c
           → Follow c (if drains then course.Drain (purpose_of this) c.scalars (λ words. computed (line_of this) (compute words) go) else course.Scalar (purpose_of this) c.scalars (computed (line_of this) (compute setting.words) go))
       by_kind true event_is = (
         (λ words. trap_in (later c (line_of this) go (made words))),
@@ -97,19 +97,19 @@ module _ (setting : Setting) (nest : Nest) where
 
     abbrev turned : Cursor → ℕ → Bool → courses.Event (ℕ × List ℤ) Cursor
     turned c k has = event_of (if has then kind.Iterate else kind.Close) Ordinary
-        (λ words. Ok (if has then record c { at = at.Inside (invocation (k + 1)); next = counted_on c.next 1 } else standing c behind)) (body, scalars_in c.scalars k) setting.words c
+        (λ words. Ok (if has then record c { at = at.Inside (invocation (k + 1)); next = c.next + 1 } else standing c behind)) (body, scalars_in c.scalars k) setting.words c
 
     pub iterates : (n k : ℕ) (c : Cursor) → c.nodes ≡ nodes → c.region ≡ region → c.scalars ≡ scalars → c.at ≡ at.Inside (invocation k) → k + n ≡ trips → Follow c (iterations n k body (scalars_in scalars) scalars rest)
     iterates zero k c same_nodes same_region same at_is count = (
       standing c behind,
-      ap (event_when setting.arrays setting.words c) at_is ∙ ap (turned c k) (le-ltb k trips (omega arith)),
+      ap (plain_event_when setting.arrays setting.words c) at_is ∙ ap (turned c k) (le-ltb k trips (omega arith)),
       ends (standing c behind) same_nodes same_region same refl,
     )
     iterates (suc n) k c same_nodes same_region same at_is count =
-        let on : Cursor = record c { at = at.Inside (invocation (k + 1)); next = counted_on c.next 1 } in (
+        let on : Cursor = record c { at = at.Inside (invocation (k + 1)); next = c.next + 1 } in (
           (body, scalars_in c.scalars k),
           on,
-          ap (event_when setting.arrays setting.words c) at_is ∙ ap (turned c k) (lt-ltb k trips (omega arith)),
+          ap (plain_event_when setting.arrays setting.words c) at_is ∙ ap (turned c k) (lt-ltb k trips (omega arith)),
           ap (λ (s : List ℤ). let i : ℕ × List ℤ = (body, scalars_in s k) in i) same,
           iterates n (suc k) on same_nodes same_region same (ap (λ t. at.Inside (invocation t)) (add-one k)) (omega arith),
         )
@@ -125,9 +125,9 @@ module _ (setting : Setting) (nest : Nest) where
     abbrev passed : Cursor → ℕ → Bool → Cursor
     passed c k has = if has then record c { at = at.Before items; region = entered (k + 1); scalars = with_scalar c.scalars name (variable low step k) } else standing c leave
 
-    turn_is : (c : Cursor) (k : ℕ) (has : Bool) → c.at ≡ at.Before next.Turn → c.region ≡ entered k → nat_lt k trips ≡ has → event_at setting.arrays setting.words c ≡ Scalar Ordinary None (passed c k has)
+    turn_is : (c : Cursor) (k : ℕ) (has : Bool) → c.at ≡ at.Before next.Turn → c.region ≡ entered k → nat_lt k trips ≡ has → plain_event_at setting.arrays setting.words c ≡ Scalar Ordinary None (passed c k has)
     turn_is c k has at_is region_is has_is =
-        ap (event_when setting.arrays setting.words c) at_is ∙ ap (λ r. Scalar Ordinary None (after_turn c r)) region_is ∙ ap (λ h. Scalar Ordinary None (passed c k h)) has_is
+        ap (plain_event_when setting.arrays setting.words c) at_is ∙ ap (λ r. Scalar Ordinary None (after_turn c r)) region_is ∙ ap (λ h. Scalar Ordinary None (passed c k h)) has_is
 
     pub turns_follow : (n k : ℕ) (c : Cursor) → c.nodes ≡ nodes → c.at ≡ at.Before next.Turn → c.region ≡ entered k → k + n ≡ trips → Follow c (region_turns n k (variable low step) name events c.scalars go)
     turns_follow zero k c same at_is region_is count =

@@ -1,4 +1,16 @@
+pub mod Doings
+pub mod Growing
 pub mod Following
 pub mod Putting
 pub mod Presents
+pub mod Scheduled
+pub mod Handing
+pub mod Rooms
 pub mod Whole
+pub mod Cursors
+pub mod Numbers
+pub mod Clearing
+pub mod Filling
+pub mod Counting
+pub mod Fixed
+pub mod Inside

@@ -1,5 +1,6 @@
 -- Items put in front of a script, one kind after the other.
-use Rattle.std.proofs.Common.{◌≡◌, ℕ, zero, suc, ◌+◌, ℤ, pos, Bool, true, false, if◌then◌else◌, Some, None, Result, Ok, Err, List, [], ◌∷◌, ◌++◌, map, length, slice_get, IfOk, refl, sym, ap, ◌∙◌, subst, arith}
+use Rattle.std.proofs.Common.{◌≡◌, ℕ, zero, suc, ◌+◌, ◌*◌, ℤ, pos, Bool, true, false, if◌then◌else◌, Some, None, Result, Ok, Err, List, [], ◌∷◌, ◌++◌, map, length, slice_get, IfOk, refl, sym, ap, ◌∙◌, subst, arith}
+use Rattle.std.specs.List.{flat_map}
 use Rattle.std.proofs.lemmas.List.{length-append}
 use Rattle.nest_syntax.specs.declared.names.Line.{Line}
 use Rattle.nest_syntax.specs.declared.names.NoMemory.{NoMemory}
@@ -29,8 +30,15 @@ use Rattle.sched_cursor.specs.Turning.{Turning, begun}
 use Rattle.sched_cursor.specs.Steps.{turning_of}
 use Rattle.sched_cursor.specs.Events.{stepped}
 use Rattle.sched_cursor.specs.Cursor.{Cursor, standing}
+use Rattle.sched_cursor.specs.Doings.{Doing, Naming, runs, AreTold, NodeTells, NodesTell, doings, doings_in_arm, doings_of, doings_in_region}
 use Rattle.sched_cursor.specs.Scripts.{Keeps, FollowsIn, Leads, EnactsRegion, Puts, PutsRegion, header_of, block_of}
+use Rattle.sched_cursor.specs.Rooms.{Most, by_turn, by_change, by_test, by_invoke, by_write, by_region}
+use Rattle.sched_cursor.proofs.Growing.{more, more_of}
+use Rattle.sched_cursor.proofs.Doings.{doings-declare, doings-assign, doings-write, doings-if, doings-loop, doings_in_arm-is, told_split, runs-append}
 use Rattle.sched_cursor.proofs.Following.{computes, iterates, turns_follow, Agrees}
+
+some_is : {A : Type 0} (a b : A) → Some a ≡ Some b → a ≡ b
+some_is a b is = cc
 
 -- scripts in one another
 pub keeps_all : (nodes : List Node) → Keeps nodes nodes
@@ -49,6 +57,12 @@ pub pushed_there : (nodes : List Node) (last : Node) → slice_get (nodes ++ las
 pushed_there [] last = refl
 pushed_there (x ∷ nodes) last = pushed_there nodes last
 
+tells_pushed : (naming : Naming) (nodes : List Node) (last : Node) → NodesTell naming nodes → NodeTells naming last → NodesTell naming (nodes ++ last ∷ [])
+tells_pushed naming [] last all this zero found is = subst (NodeTells naming) (some_is last found is) this
+tells_pushed naming [] last all this (suc n) found is = cc
+tells_pushed naming (x ∷ nodes) last all this zero found is = all zero found is
+tells_pushed naming (x ∷ nodes) last all this (suc n) found is = tells_pushed naming nodes last (λ m. all (suc m)) this n found is
+
 -- an item of one node
 module _ (nodes : List Node) (this : Node) where
   abbrev longer : List Node
@@ -61,18 +75,27 @@ module _ (nodes : List Node) (this : Node) where
     pub follows : (setting : Setting) (nest : Nest) (c : Cursor) → c.at ≡ at.Before (next.Node (length nodes)) → slice_get c.nodes (length nodes) ≡ Some this → (go : List ℤ → Course)
         → Leads setting nest c behind go → FollowsIn setting nest c ((item setting).events first c.scalars go)
 
-  pub one_node : (item : Setting → Item) (first first' : ℕ) (behind : Next) → ((setting : Setting) → first' + length (item setting).bodies ≡ first) → IsNode item first' behind → Puts nodes first longer first' item behind (next.Node (length nodes))
-  one_node item first first' behind counts is = record {
+  pub one_node : (item : Setting → Item) (does : List Doing) (first first' : ℕ) (behind : Next) → ((setting : Setting) → first' + length (item setting).bodies ≡ first) → first' + runs does ≡ first
+      → ((naming : Naming) → AreTold naming first' does → NodeTells naming this)
+      → ((more_nodes : List Node) → slice_get more_nodes (length nodes) ≡ Some this → (k : ℕ) → Most more_nodes behind k → Most more_nodes (next.Node (length nodes)) (16777216 * runs does + k))
+      → IsNode item first' behind → Puts nodes first longer first' item does behind (next.Node (length nodes))
+  one_node item does first first' behind counts runs_are tells room is = record {
     keeps = keeps_pushed nodes this;
     counts = counts;
+    ran = runs_are;
+    tells = λ naming told all. tells_pushed naming nodes this all (tells naming told);
+    room = λ more_nodes keeps k most. room more_nodes (keeps (length nodes) this (pushed_there nodes this)) k most;
     enacts = λ setting nest c keeps at_is go ends. is.follows setting nest c at_is (there_in c keeps) go ends;
   }
 
 -- a declaration, an assignment
 module _ (nodes : List Node) (first : ℕ) (line : Line) (name : ℕ) (e : Expr) (behind : Next) where
-  pub puts_declare : Puts nodes first (nodes ++ node.Change line name op.Set e behind ∷ []) first (λ setting. item_of setting (stmt.Declare line name e)) behind (next.Node (length nodes))
-  puts_declare = one_node nodes this (λ setting. item_of setting (stmt.Declare line name e)) first first behind
+  pub puts_declare : Puts nodes first (nodes ++ node.Change line name op.Set e behind ∷ []) first (λ setting. item_of setting (stmt.Declare line name e)) (doings (stmt.Declare line name e)) behind (next.Node (length nodes))
+  puts_declare = one_node nodes this (λ setting. item_of setting (stmt.Declare line name e)) (doings (stmt.Declare line name e)) first first behind
       (λ setting. ap (λ (i : Item). first + length i.bodies) (item-declare setting line name e) ∙ omega arith)
+      (ap (λ ds. first + runs ds) (doings-declare line name e) ∙ omega arith)
+      (λ naming told. (subst (AreTold naming first) (doings-declare line name e) told).0)
+      (λ more_nodes there k most. by_change (length nodes) (16777216 * runs (doings (stmt.Declare line name e)) + k) line name op.Set e behind there (more more_nodes behind k (16777216 * runs (doings (stmt.Declare line name e)) + k) (omega arith) most))
       (record {
         follows = λ setting nest c at_is there go ends. subst (λ (i : Item). FollowsIn setting nest c (i.events first c.scalars go)) (sym (item-declare setting line name e))
             (computes setting nest c (length nodes) this at_is there (λ words. and_then (value setting.arrays c.scalars words e) (λ new. Ok (with_scalar c.scalars name new))) go
@@ -88,9 +111,12 @@ module _ (nodes : List Node) (first : ℕ) (line : Line) (name : ℕ) (e : Expr)
       agree setting nest c go ends (Err cause) = refl
 
 module _ (nodes : List Node) (first : ℕ) (line : Line) (name : ℕ) (o : Op) (e : Expr) (behind : Next) where
-  pub puts_assign : Puts nodes first (nodes ++ node.Change line name o e behind ∷ []) first (λ setting. item_of setting (stmt.Assign line name o e)) behind (next.Node (length nodes))
-  puts_assign = one_node nodes this (λ setting. item_of setting (stmt.Assign line name o e)) first first behind
+  pub puts_assign : Puts nodes first (nodes ++ node.Change line name o e behind ∷ []) first (λ setting. item_of setting (stmt.Assign line name o e)) (doings (stmt.Assign line name o e)) behind (next.Node (length nodes))
+  puts_assign = one_node nodes this (λ setting. item_of setting (stmt.Assign line name o e)) (doings (stmt.Assign line name o e)) first first behind
       (λ setting. ap (λ (i : Item). first + length i.bodies) (item-assign setting line name o e) ∙ omega arith)
+      (ap (λ ds. first + runs ds) (doings-assign line name o e) ∙ omega arith)
+      (λ naming told. (subst (AreTold naming first) (doings-assign line name o e) told).0)
+      (λ more_nodes there k most. by_change (length nodes) (16777216 * runs (doings (stmt.Assign line name o e)) + k) line name o e behind there (more more_nodes behind k (16777216 * runs (doings (stmt.Assign line name o e)) + k) (omega arith) most))
       (record {
         follows = λ setting nest c at_is there go ends. subst (λ (i : Item). FollowsIn setting nest c (i.events first c.scalars go)) (sym (item-assign setting line name o e))
             (computes setting nest c (length nodes) this at_is there (λ words. and_then (value setting.arrays c.scalars words e) (λ right. and_then (assigned (operation_of o) (scalar_at c.scalars name) right) (λ new. Ok (with_scalar c.scalars name new)))) go
@@ -161,8 +187,12 @@ module _ (nodes : List Node) (first : ℕ) (l : Loop) (behind : Next) where
           (λ later same region scalars at'. subst (λ s. FollowsIn setting nest later (go s)) scalars (ends later same region at'))
           trips 0 (stepped c (step.Invoke (record { body = first; name = Some l.name; turning = begun low l.step trips; next = behind }))) refl refl refl refl (omega arith)) words)
 
-  pub puts_invocation : Puts nodes (suc first) (nodes ++ invoking ∷ []) first (λ setting. item_of setting (stmt.Loop l)) behind (next.Node (length nodes))
-  puts_invocation = one_node nodes invoking (λ setting. item_of setting (stmt.Loop l)) (suc first) first behind (λ setting. ap (λ (i : Item). first + length i.bodies) (invocation_is setting) ∙ omega arith) invocation_follows
+  pub puts_invocation : Puts nodes (suc first) (nodes ++ invoking ∷ []) first (λ setting. item_of setting (stmt.Loop l)) (doings (stmt.Loop l)) behind (next.Node (length nodes))
+  puts_invocation = one_node nodes invoking (λ setting. item_of setting (stmt.Loop l)) (doings (stmt.Loop l)) (suc first) first behind (λ setting. ap (λ (i : Item). first + length i.bodies) (invocation_is setting) ∙ omega arith)
+      (ap (λ ds. first + runs ds) (doings-loop l) ∙ omega arith) (λ naming told. (subst (AreTold naming first) (doings-loop l) told).0)
+      (λ more_nodes there k most. subst (λ ds. Most more_nodes (next.Node (length nodes)) (16777216 * runs ds + k)) (sym (doings-loop l))
+      (by_invoke (length nodes) k (16777216 * 1 + k) (header_of l) first behind there most (omega arith)))
+      invocation_follows
 
 -- an array statement
 module _ (nodes : List Node) (first : ℕ) (line : Line) (name : ℕ) (place : Expr) (o : Op) (e : Expr) (behind : Next) where
@@ -184,35 +214,61 @@ module _ (nodes : List Node) (first : ℕ) (line : Line) (name : ℕ) (place : E
           (λ later same region scalars at'. subst (λ s. FollowsIn setting nest later (go s)) scalars (ends later same region at'))
           1 0 (stepped c (step.Invoke (record { body = first; name = None; turning = begun (pos 0) 1 1; next = behind }))) refl refl refl refl refl)
 
-  pub puts_write : Puts nodes (suc first) (nodes ++ writing ∷ []) first (λ setting. item_of setting the_write) behind (next.Node (length nodes))
-  puts_write = one_node nodes writing (λ setting. item_of setting the_write) (suc first) first behind (λ setting. ap (λ (i : Item). first + length i.bodies) (item-write setting line name place o e) ∙ omega arith) write_follows
+  pub puts_write : Puts nodes (suc first) (nodes ++ writing ∷ []) first (λ setting. item_of setting the_write) (doings the_write) behind (next.Node (length nodes))
+  puts_write = one_node nodes writing (λ setting. item_of setting the_write) (doings the_write) (suc first) first behind (λ setting. ap (λ (i : Item). first + length i.bodies) (item-write setting line name place o e) ∙ omega arith)
+      (ap (λ ds. first + runs ds) (doings-write line name place o e) ∙ omega arith) (λ naming told. (subst (AreTold naming first) (doings-write line name place o e) told).0)
+      (λ more_nodes there k most. subst (λ ds. Most more_nodes (next.Node (length nodes)) (16777216 * runs ds + k)) (sym (doings-write line name place o e))
+      (by_write (length nodes) k (16777216 * 1 + k) line first behind there most (omega arith)))
+      write_follows
 
 -- the same item, otherwise said
-pub puts_as : (nodes : List Node) (first : ℕ) (nodes' : List Node) (first' : ℕ) (item item' : Setting → Item) (behind start : Next) → ((setting : Setting) → item' setting ≡ item setting) → Puts nodes first nodes' first' item behind start → Puts nodes first nodes' first' item' behind start
-puts_as nodes first nodes' first' item item' behind start same puts = record {
+pub puts_as : (nodes : List Node) (first : ℕ) (nodes' : List Node) (first' : ℕ) (item item' : Setting → Item) (does does' : List Doing) (behind start : Next) → ((setting : Setting) → item' setting ≡ item setting) → does' ≡ does
+    → Puts nodes first nodes' first' item does behind start → Puts nodes first nodes' first' item' does' behind start
+puts_as nodes first nodes' first' item item' does does' behind start same same_does puts = record {
   keeps = puts.keeps;
   counts = λ setting. ap (λ (i : Item). first' + length i.bodies) (same setting) ∙ puts.counts setting;
+  ran = ap (λ ds. first' + runs ds) same_does ∙ puts.ran;
+  tells = λ naming told all. puts.tells naming (subst (AreTold naming first') same_does told) all;
+  room = λ longer keeps k most. subst (λ ds. Most longer start (16777216 * runs ds + k)) (sym same_does) (puts.room longer keeps k most);
   enacts = λ setting nest c keeps at_is go ends. subst (λ (i : Item). FollowsIn setting nest c (i.events first' c.scalars go)) (sym (same setting)) (puts.enacts setting nest c keeps at_is go ends);
 }
 
 -- no items
-pub puts_none : (nodes : List Node) (first : ℕ) (behind : Next) → Puts nodes first nodes first (block_of []) behind behind
+pub puts_none : (nodes : List Node) (first : ℕ) (behind : Next) → Puts nodes first nodes first (block_of []) [] behind behind
 puts_none nodes first behind = record {
   keeps = keeps_all nodes;
   counts = λ setting. omega arith;
+  ran = omega arith;
+  tells = λ naming told all. all;
+  room = λ longer keeps k most. more longer behind k (16777216 * 0 + k) (omega arith) most;
   enacts = λ setting nest c keeps at_is go ends. ends c refl refl at_is;
 }
 
+-- what stands in two parts: how many there are, how many are run, and what is told of them
+both_count : {A : Type 0} (f₀ f₁ f₂ : ℕ) (xs ys : List A) → f₁ + length ys ≡ f₀ → f₂ + length xs ≡ f₁ → f₂ + length (xs ++ ys) ≡ f₀
+both_count f₀ f₁ f₂ xs ys rest here = let both = length-append xs ys in omega (arith, rest, here)
+
+both_run : (f₀ f₁ f₂ : ℕ) (does later_does : List Doing) → f₁ + runs later_does ≡ f₀ → f₂ + runs does ≡ f₁ → f₂ + runs (does ++ later_does) ≡ f₀
+both_run f₀ f₁ f₂ does later_does rest here = let both = runs-append does later_does in omega (arith, rest, here)
+
+both_tell : (n₀ n₁ n₂ : List Node) (f₁ f₂ : ℕ) (does later_does : List Doing) → f₂ + runs does ≡ f₁ → ((naming : Naming) → AreTold naming f₁ later_does → NodesTell naming n₀ → NodesTell naming n₁) → ((naming : Naming) → AreTold naming f₂ does → NodesTell naming n₁ → NodesTell naming n₂)
+    → (naming : Naming) → AreTold naming f₂ (does ++ later_does) → NodesTell naming n₀ → NodesTell naming n₂
+both_tell n₀ n₁ n₂ f₁ f₂ does later_does runs_are rest here naming told all =
+    let parts = told_split naming f₂ does later_does told in
+    here naming parts.0 (rest naming (subst (λ f. AreTold naming f later_does) runs_are parts.1) all)
+
 -- an item before others
-pub puts_more : (n₀ n₁ n₂ : List Node) (f₀ f₁ f₂ : ℕ) (item : Setting → Item) (others : Setting → List Item) (behind middle start : Next)
-    → Puts n₀ f₀ n₁ f₁ (λ setting. in_order (others setting)) behind middle → Puts n₁ f₁ n₂ f₂ item middle start → Puts n₀ f₀ n₂ f₂ (λ setting. in_order (item setting ∷ others setting)) behind start
-puts_more n₀ n₁ n₂ f₀ f₁ f₂ item others behind middle start rest here = record {
+pub puts_more : (n₀ n₁ n₂ : List Node) (f₀ f₁ f₂ : ℕ) (item : Setting → Item) (others : Setting → List Item) (does later_does : List Doing) (behind middle start : Next)
+    → Puts n₀ f₀ n₁ f₁ (λ setting. in_order (others setting)) later_does behind middle → Puts n₁ f₁ n₂ f₂ item does middle start → Puts n₀ f₀ n₂ f₂ (λ setting. in_order (item setting ∷ others setting)) (does ++ later_does) behind start
+puts_more n₀ n₁ n₂ f₀ f₁ f₂ item others does later_does behind middle start rest here = record {
   keeps = keeps_then n₀ n₁ n₂ rest.keeps here.keeps;
-  counts = λ setting.
-      let both = length-append (item setting).bodies (in_order (others setting)).bodies in
-      let one = here.counts setting in
-      let more = rest.counts setting in
-      omega arith;
+  ran = both_run f₀ f₁ f₂ does later_does rest.ran here.ran;
+  tells = both_tell n₀ n₁ n₂ f₁ f₂ does later_does here.ran rest.tells here.tells;
+  room = λ longer keeps k most.
+      let both = runs-append does later_does in
+      more longer start (16777216 * runs does + (16777216 * runs later_does + k)) (16777216 * runs (does ++ later_does) + k) (omega arith)
+      (here.room longer keeps (16777216 * runs later_does + k) (rest.room longer (keeps_then n₁ n₂ longer here.keeps keeps) k most));
+  counts = λ setting. both_count f₀ f₁ f₂ (item setting).bodies (in_order (others setting)).bodies (rest.counts setting) (here.counts setting);
   enacts = λ setting nest c keeps at_is go ends.
       here.enacts setting nest c keeps at_is (λ after. (in_order (others setting)).events (f₂ + length (item setting).bodies) after go)
       (λ later same region at'. subst (λ f. FollowsIn setting nest later ((in_order (others setting)).events f later.scalars go)) (sym (here.counts setting))
@@ -221,8 +277,8 @@ puts_more n₀ n₁ n₂ f₀ f₁ f₂ item others behind middle start rest her
 }
 
 -- an arm before others
-module _ (n₀ n₁ n₂ : List Node) (f₀ f₁ f₂ : ℕ) (a : Arm) (arms : Setting → List Tested) (other : Setting → Item) (behind otherwise taken : Next)
-    (rest : Puts n₀ f₀ n₁ f₁ (λ setting. chosen (arms setting) (other setting)) behind otherwise) (body : Puts n₁ f₁ n₂ f₂ (block_of a.body) behind taken) where
+module _ (n₀ n₁ n₂ : List Node) (f₀ f₁ f₂ : ℕ) (a : Arm) (arms : Setting → List Tested) (other : Setting → Item) (does : List Doing) (behind otherwise taken : Next)
+    (rest : Puts n₀ f₀ n₁ f₁ (λ setting. chosen (arms setting) (other setting)) does behind otherwise) (body : Puts n₁ f₁ n₂ f₂ (block_of a.body) (doings_of a.body) behind taken) where
   abbrev testing : Node
   testing = node.Test a.line a.test taken otherwise
 
@@ -261,16 +317,20 @@ module _ (n₀ n₁ n₂ : List Node) (f₀ f₁ f₂ : ℕ) (a : Arm) (arms : S
       agree (Ok v) = by_zero (is_zero v)
       agree (Err cause) = refl
 
-  pub puts_arm : Puts n₀ f₀ (n₂ ++ testing ∷ []) f₂ (λ setting. chosen (tested_of setting a ∷ arms setting) (other setting)) behind (next.Node (length n₂))
-  puts_arm = puts_as n₀ f₀ (n₂ ++ testing ∷ []) f₂ (λ setting. whole setting (tested_as setting (block_of a.body setting))) (λ setting. whole setting (tested_of setting a)) behind (next.Node (length n₂))
-      (λ setting. ap (whole setting) (tested_as_is setting))
+  pub puts_arm : Puts n₀ f₀ (n₂ ++ testing ∷ []) f₂ (λ setting. chosen (tested_of setting a ∷ arms setting) (other setting)) (doings_in_arm a ++ does) behind (next.Node (length n₂))
+  puts_arm = puts_as n₀ f₀ (n₂ ++ testing ∷ []) f₂ (λ setting. whole setting (tested_as setting (block_of a.body setting))) (λ setting. whole setting (tested_of setting a)) (doings_of a.body ++ does) (doings_in_arm a ++ does) behind (next.Node (length n₂))
+      (λ setting. ap (whole setting) (tested_as_is setting)) (ap (λ ds. ds ++ does) (doings_in_arm-is a))
       (record {
         keeps = keeps_then n₀ n₁ (n₂ ++ testing ∷ []) rest.keeps (keeps_then n₁ n₂ (n₂ ++ testing ∷ []) body.keeps (keeps_pushed n₂ testing));
-        counts = λ setting.
-            let both = length-append (block_of a.body setting).bodies (chosen (arms setting) (other setting)).bodies in
-            let one = body.counts setting in
-            let more = rest.counts setting in
-            omega arith;
+        counts = λ setting. both_count f₀ f₁ f₂ (block_of a.body setting).bodies (chosen (arms setting) (other setting)).bodies (rest.counts setting) (body.counts setting);
+        ran = both_run f₀ f₁ f₂ (doings_of a.body) does rest.ran body.ran;
+        tells = λ naming told all. tells_pushed naming n₂ testing (both_tell n₀ n₁ n₂ f₁ f₂ (doings_of a.body) does body.ran rest.tells body.tells naming told all) tt;
+        room = λ longer keeps k most.
+            let both = runs-append (doings_of a.body) does in
+            let keeps_body : Keeps n₂ longer = keeps_then n₂ (n₂ ++ testing ∷ []) longer (keeps_pushed n₂ testing) keeps in
+            by_test (length n₂) (16777216 * runs (doings_of a.body ++ does) + k) a.line a.test taken otherwise (keeps (length n₂) testing (pushed_there n₂ testing))
+            (more longer taken (16777216 * runs (doings_of a.body) + k) (16777216 * runs (doings_of a.body ++ does) + k) (omega arith) (body.room longer keeps_body k most))
+            (more longer otherwise (16777216 * runs does + k) (16777216 * runs (doings_of a.body ++ does) + k) (omega arith) (rest.room longer (keeps_then n₁ n₂ longer body.keeps keeps_body) k most));
         enacts = enacts_test;
       })
 
@@ -281,7 +341,7 @@ if_is setting arms other = item-if setting arms other
     ∙ ap (λ items. chosen (map (tested_of setting) arms) (in_order items)) (seconds (item_of setting) other)
 
 -- a region
-module _ (n₀ n₁ : List Node) (f₀ f₁ : ℕ) (l : Loop) (items leave : Next) (body : Puts n₀ f₀ n₁ f₁ (block_of l.body) next.Turn items) where
+module _ (n₀ n₁ : List Node) (f₀ f₁ : ℕ) (l : Loop) (items leave : Next) (body : Puts n₀ f₀ n₁ f₁ (block_of l.body) (doings_of l.body) next.Turn items) where
   abbrev entering : Node
   entering = node.Region (header_of l) items leave
 
@@ -310,30 +370,40 @@ module _ (n₀ n₁ : List Node) (f₀ f₁ : ℕ) (l : Loop) (items leave : Nex
       inside : (d : Cursor) → d.nodes ≡ c.nodes → d.at ≡ at.Before items → (after : List ℤ → Course) → Leads setting nest d next.Turn after → FollowsIn setting nest d ((block_of l.body setting).events f₁ d.scalars after)
       inside d same at' after onward = body.enacts setting nest d (λ n this there. ap (λ nodes. slice_get nodes n) same ∙ keeps n this (keeps_pushed n₁ entering n this there)) at' after onward
 
-  pub puts_region : PutsRegion n₀ f₀ (n₁ ++ entering ∷ []) f₁ (λ setting. region_of setting l) leave (next.Node (length n₁))
+  pub puts_region : PutsRegion n₀ f₀ (n₁ ++ entering ∷ []) f₁ (λ setting. region_of setting l) (doings_in_region l) leave (next.Node (length n₁))
   puts_region = record {
     keeps = keeps_then n₀ n₁ (n₁ ++ entering ∷ []) body.keeps (keeps_pushed n₁ entering);
+    ran = body.ran;
+    tells = λ naming told all. tells_pushed naming n₁ entering (body.tells naming told.1 all) told.0;
+    room = λ longer keeps k most.
+        by_region (length n₁) (16777216 * runs (doings_of l.body) + 0) k (281474976710656 * runs (doings_of l.body) + k) (header_of l) items leave (keeps (length n₁) entering (pushed_there n₁ entering))
+        (body.room longer (keeps_then n₁ (n₁ ++ entering ∷ []) longer (keeps_pushed n₁ entering) keeps) 0 (by_turn 0)) most (omega arith);
     counts = λ setting. ap (λ (i : Item). f₁ + length i.bodies) (region_is setting) ∙ body.counts setting;
     enacts = λ setting nest c keeps at_is go ends. subst (λ (i : Item). FollowsIn setting nest c (i.events f₁ c.scalars go)) (sym (region_is setting)) (enacts_region setting nest c keeps at_is go ends);
   }
 
-pub puts_no_region : (nodes : List Node) (first : ℕ) (behind : Next) → PutsRegion nodes first nodes first (λ setting. in_order []) behind behind
+pub puts_no_region : (nodes : List Node) (first : ℕ) (behind : Next) → PutsRegion nodes first nodes first (λ setting. in_order []) [] behind behind
 puts_no_region nodes first behind = record {
   keeps = keeps_all nodes;
+  ran = omega arith;
+  tells = λ naming told all. all;
+  room = λ longer keeps k most. more_of longer behind k (281474976710656 * 0 + k) (omega arith) most;
   counts = λ setting. omega arith;
   enacts = λ setting nest c keeps at_is go ends. ends c refl at_is;
 }
 
 -- a region before others
-pub puts_more_regions : (n₀ n₁ n₂ : List Node) (f₀ f₁ f₂ : ℕ) (item : Setting → Item) (others : Setting → List Item) (behind middle start : Next)
-    → PutsRegion n₀ f₀ n₁ f₁ (λ setting. in_order (others setting)) behind middle → PutsRegion n₁ f₁ n₂ f₂ item middle start → PutsRegion n₀ f₀ n₂ f₂ (λ setting. in_order (item setting ∷ others setting)) behind start
-puts_more_regions n₀ n₁ n₂ f₀ f₁ f₂ item others behind middle start rest here = record {
+pub puts_more_regions : (n₀ n₁ n₂ : List Node) (f₀ f₁ f₂ : ℕ) (item : Setting → Item) (others : Setting → List Item) (does later_does : List Doing) (behind middle start : Next)
+    → PutsRegion n₀ f₀ n₁ f₁ (λ setting. in_order (others setting)) later_does behind middle → PutsRegion n₁ f₁ n₂ f₂ item does middle start → PutsRegion n₀ f₀ n₂ f₂ (λ setting. in_order (item setting ∷ others setting)) (does ++ later_does) behind start
+puts_more_regions n₀ n₁ n₂ f₀ f₁ f₂ item others does later_does behind middle start rest here = record {
   keeps = keeps_then n₀ n₁ n₂ rest.keeps here.keeps;
-  counts = λ setting.
-      let both = length-append (item setting).bodies (in_order (others setting)).bodies in
-      let one = here.counts setting in
-      let more = rest.counts setting in
-      omega arith;
+  ran = both_run f₀ f₁ f₂ does later_does rest.ran here.ran;
+  tells = both_tell n₀ n₁ n₂ f₁ f₂ does later_does here.ran rest.tells here.tells;
+  room = λ longer keeps k most.
+      let both = runs-append does later_does in
+      more_of longer start (281474976710656 * runs does + (281474976710656 * runs later_does + k)) (281474976710656 * runs (does ++ later_does) + k) (omega arith)
+      (here.room longer keeps (281474976710656 * runs later_does + k) (rest.room longer (keeps_then n₁ n₂ longer here.keeps keeps) k most));
+  counts = λ setting. both_count f₀ f₁ f₂ (item setting).bodies (in_order (others setting)).bodies (rest.counts setting) (here.counts setting);
   enacts = λ setting nest c keeps at_is go ends.
       here.enacts setting nest c keeps at_is (λ after. (in_order (others setting)).events (f₂ + length (item setting).bodies) after go)
       (λ later same at'. subst (λ f. FollowsIn setting nest later ((in_order (others setting)).events f later.scalars go)) (sym (here.counts setting))
@@ -349,9 +419,10 @@ pushed P m n' g f' this holds (Ok start) tells =
 pushed P m n' g f' this holds (Err none) tells = tells
 
 -- an `if`, from its last block and its arms
-pub if_puts : (result : Result Next NoMemory) (n m n' : List Node) (f g f' : ℕ) (arms : List Arm) (other : List Stmt) (behind otherwise : Next) → Puts n f m g (block_of other) behind otherwise
-    → IfOk result (λ start. (nodes : List Node) (first : ℕ) (o : Setting → Item) → Puts nodes first m g o behind otherwise → Puts nodes first n' f' (λ setting. chosen (map (tested_of setting) arms) (o setting)) behind start)
-    → IfOk result (λ start. Puts n f n' f' (λ setting. item_of setting (stmt.If arms other)) behind start)
+pub if_puts : (result : Result Next NoMemory) (n m n' : List Node) (f g f' : ℕ) (arms : List Arm) (other : List Stmt) (behind otherwise : Next) → Puts n f m g (block_of other) (doings_of other) behind otherwise
+    → IfOk result (λ start. (nodes : List Node) (first : ℕ) (o : Setting → Item) (does : List Doing) → Puts nodes first m g o does behind otherwise → Puts nodes first n' f' (λ setting. chosen (map (tested_of setting) arms) (o setting)) (flat_map doings_in_arm arms ++ does) behind start)
+    → IfOk result (λ start. Puts n f n' f' (λ setting. item_of setting (stmt.If arms other)) (doings (stmt.If arms other)) behind start)
 if_puts (Ok start) n m n' f g f' arms other behind otherwise block each =
-    puts_as n f n' f' (λ setting. chosen (map (tested_of setting) arms) (block_of other setting)) (λ setting. item_of setting (stmt.If arms other)) behind start (λ setting. if_is setting arms other) (each n f (block_of other) block)
+    puts_as n f n' f' (λ setting. chosen (map (tested_of setting) arms) (block_of other setting)) (λ setting. item_of setting (stmt.If arms other)) (flat_map doings_in_arm arms ++ doings_of other) (doings (stmt.If arms other)) behind start
+    (λ setting. if_is setting arms other) (doings-if arms other) (each n f (block_of other) (doings_of other) block)
 if_puts (Err none) n m n' f g f' arms other behind otherwise block each = each

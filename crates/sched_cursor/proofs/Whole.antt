@@ -1,112 +1,191 @@
 -- A cursor along the course of its program, from the start and past whole invocations.
-use Rattle.std.proofs.Common.{◌≡◌, ℕ, ◌+◌, ◌-◌, ◌<◌, ◌≤◌, ◌^◌, ℤ, Bool, true, false, nat_lt, if◌then◌else◌, Option, Ok, List, [], map, length, slice_get, refl, sym, ap, ◌∙◌, subst, arith}
-use Rattle.std.proofs.lemmas.Bool.{ltb-true, ltb-false}
+use Rattle.std.proofs.Common.{◌≡◌, ℕ, zero, suc, ◌+◌, ◌-◌, ℤ, Bool, true, false, if◌then◌else◌, Option, Result, Ok, Err, List, refl, sym, ap, ◌∙◌, subst, arith, add-one}
+use Rattle.std.proofs.lemmas.Bool.{lt-ltb, le-ltb}
 use Rattle.nest_syntax.specs.declared.tree.Program.{Program}
-use Rattle.nest_syntax.specs.Course.{Course, Purpose, Ordinary, Setting, in_order, region_of, setting_of}
-use Rattle.nest_syntax.specs.Shape.{bodies_of}
-use Rattle.nest_syntax.proofs.Shapes.{regions_same}
+use Rattle.nest_syntax.specs.Course.{Course, Purpose, Ordinary, Setting, setting_of}
 use Rattle.nest_syntax.specs.Course as course
-use Rattle.settle_law.specs.Courses.{Nest, Trap, nest_of}
+use Rattle.settle_law.specs.Courses.{Nest, Trap, Follows, nest_of, trap_of}
 use Rattle.settle_law.specs.Courses as courses
-use Rattle.sched_cursor.specs.declared.node.Next.TheVariants as next
+use Rattle.sched_cursor.specs.declared.event.Iteration.{Iteration}
 use Rattle.sched_cursor.specs.declared.node.Invocation.{Invocation}
-use Rattle.sched_cursor.specs.declared.node.At.{At}
 use Rattle.sched_cursor.specs.declared.node.At.TheVariants as at
+use Rattle.sched_cursor.specs.declared.event.Event.{Event}
 use Rattle.sched_cursor.specs.declared.event.Event.TheVariants as kind
 use Rattle.sched_cursor.specs.Turning.{has_turn, one_passed}
 use Rattle.sched_cursor.specs.Cursor.{Cursor, standing}
-use Rattle.sched_cursor.specs.Events.{event_of, event_when, event_at, counted_on, scalars_inside, is_inside, behind_invocation}
-use Rattle.sched_cursor.specs.Scripts.{FollowsIn, PutsRegion}
-use Rattle.sched_cursor.specs.Laws.{IsScriptOf, restarted, CursorsFollow, behind_close, WholeInvocationsFollow}
+use Rattle.sched_cursor.specs.Events.{cursor_or, kind_at, purpose_at, after_at, after_event, event_of, event_when, event_at, plain_event_at, handed_in, handed_at, behind_invocation}
+use Rattle.sched_cursor.specs.Scripts.{FollowsIn}
+use Rattle.sched_cursor.specs.Handed.{NumbersNames, AtTells, Tells, naming_of, what_of}
+use Rattle.sched_cursor.specs.Laws.{restarted, FollowsCourse, CursorsFollow, BeginsWith, WholeInvocationsFollow}
+use Rattle.sched_cursor.proofs.Scheduled.{restart_tells}
+use Rattle.sched_cursor.proofs.Handing.{as_told, told_event, TellsOk, tells_after, StaysOk, stays_after}
+
+-- an event whose iterations are told otherwise is the same event
+module _ {A B C : Type 0} (what : A → B) where
+  ends : (e : courses.Event A C) → as_told what e ≡ courses.End → e ≡ courses.End
+  ends courses.End is = refl
+  ends (courses.Scalar purpose trap later) is = cc
+  ends (courses.Drain purpose trap later) is = cc
+  ends (courses.Iterate a later) is = cc
+  ends (courses.Close later) is = cc
+
+  computes_as : (e : courses.Event A C) (p : Purpose) (t : Option Trap) (n : C) → as_told what e ≡ courses.Scalar p t n → e ≡ courses.Scalar p t n
+  computes_as courses.End p t n is = cc
+  computes_as (courses.Scalar purpose trap later) p t n is = cc
+  computes_as (courses.Drain purpose trap later) p t n is = cc
+  computes_as (courses.Iterate a later) p t n is = cc
+  computes_as (courses.Close later) p t n is = cc
+
+  drains_as : (e : courses.Event A C) (p : Purpose) (t : List ℤ → Option Trap) (n : List ℤ → C) → as_told what e ≡ courses.Drain p t n → e ≡ courses.Drain p t n
+  drains_as courses.End p t n is = cc
+  drains_as (courses.Scalar purpose trap later) p t n is = cc
+  drains_as (courses.Drain purpose trap later) p t n is = cc
+  drains_as (courses.Iterate a later) p t n is = cc
+  drains_as (courses.Close later) p t n is = cc
+
+  iterates_as : (e : courses.Event A C) (b : B) (n : C) → as_told what e ≡ courses.Iterate b n → (a : A) × (e ≡ courses.Iterate a n) × (what a ≡ b)
+  iterates_as courses.End b n is = cc
+  iterates_as (courses.Scalar purpose trap later) b n is = cc
+  iterates_as (courses.Drain purpose trap later) b n is = cc
+  iterates_as (courses.Iterate a later) b n is = (a, (let same : later ≡ n = cc in ap (λ l. courses.Iterate a l) same), cc)
+  iterates_as (courses.Close later) b n is = cc
+
+  closes_as : (e : courses.Event A C) (n : C) → as_told what e ≡ courses.Close n → e ≡ courses.Close n
+  closes_as courses.End n is = cc
+  closes_as (courses.Scalar purpose trap later) n is = cc
+  closes_as (courses.Drain purpose trap later) n is = cc
+  closes_as (courses.Iterate a later) n is = cc
+  closes_as (courses.Close later) n is = cc
+
+-- a cursor with its names
+module _ (program : Program) (words : List ℤ) where
+  abbrev pub setting : Setting
+  setting = setting_of program words
+
+  abbrev pub nest : Nest
+  nest = nest_of program words
+
+  pub record Good (c : Cursor) : Type 0 where
+    pub numbers : NumbersNames program c.names
+    pub tells : Tells (naming_of program) c
+
+  abbrev pub GoodBehind : courses.Event Iteration Cursor → Type 0
+  GoodBehind courses.End = Unit {0}
+  GoodBehind (courses.Scalar purpose trap later) = Good later
+  GoodBehind (courses.Drain purpose trap later) = (now : List ℤ) → Good (later now)
+  GoodBehind (courses.Iterate i later) = Good later
+  GoodBehind (courses.Close later) = Good later
+
+  abbrev pub here : Cursor → courses.Event Iteration Cursor
+  here c = event_at setting.arrays words c
+
+  good_or : (c : Cursor) → Good c → (result : Result Cursor Trap) → StaysOk c result → TellsOk (naming_of program) result → Good (cursor_or c result)
+  good_or c good (Ok later) stays tells = record { numbers = subst (NumbersNames program) (sym stays.names) good.numbers; tells = tells }
+  good_or c good (Err trap) stays tells = good
+
+  pub good_behind : (c : Cursor) → Good c → GoodBehind (here c)
+  good_behind c good = by (kind_at setting.arrays c c.at)
+    where
+      after : (now : List ℤ) → Good (cursor_or c (after_event setting.arrays c now))
+      after now = good_or c good (after_event setting.arrays c now) (stays_after setting.arrays now c) (tells_after (naming_of program) setting.arrays now c good.tells)
+
+      by : (k : Event) → GoodBehind (event_of k (purpose_at c c.at) (λ now. after_at setting.arrays c now c.at) (handed_at c c.at) words c)
+      by kind.Scalar = after words
+      by kind.Drain = after
+      by kind.Iterate = after words
+      by kind.Close = after words
+      by kind.End = tt
+
+  told : (c : Cursor) → Good c → plain_event_at setting.arrays words c ≡ as_told (what_of program) (here c)
+  told c good = told_event program setting.arrays words c c.at good.numbers good.tells good.tells.at
+
+  pub follows_told : (left : Course) (c : Cursor) → Good c → FollowsIn setting nest c left → FollowsCourse program words c left
+  follows_told course.End c good f = ends (what_of program) (here c) (sym (told c good) ∙ f)
+  follows_told (course.Failed cause line) c good f = f
+  follows_told (course.Scalar purpose scalars rest) c good f =
+      let is = computes_as (what_of program) (here c) purpose (trap_of rest) f.0 (sym (told c good) ∙ f.1) in
+      let behind : Good f.0 = subst GoodBehind is (good_behind c good) in
+      (f.0, is, λ none. follows_told rest f.0 behind (f.2 none))
+  follows_told (course.Drain purpose scalars rest) c good f =
+      let is = drains_as (what_of program) (here c) purpose f.0 f.1 (sym (told c good) ∙ f.2) in
+      let behind : (now : List ℤ) → Good (f.1 now) = subst GoodBehind is (good_behind c good) in
+      (f.0, f.1, is, λ now. ((f.3 now).0, λ none. follows_told (rest now) (f.1 now) (behind now) ((f.3 now).1 none)))
+  follows_told (course.Iterate body scalars rest) c good f =
+      let is = iterates_as (what_of program) (here c) f.0 f.1 (sym (told c good) ∙ f.2) in
+      let behind : Good f.1 = subst GoodBehind is.1 (good_behind c good) in
+      (is.0, f.1, is.1, is.2 ∙ f.3, follows_told rest f.1 behind f.4)
+  follows_told (course.Close scalars rest) c good f =
+      let is = closes_as (what_of program) (here c) f.0 (sym (told c good) ∙ f.1) in
+      let behind : Good f.0 = subst GoodBehind is (good_behind c good) in
+      (f.0, is, follows_told rest f.0 behind f.2)
+
+  -- the invocation that was entered, turn by turn
+  abbrev turned : Cursor → Invocation → Cursor
+  turned c i = record c { at = at.Inside (record i { turning = one_passed i.turning }); next = c.next + 1 }
+
+  abbrev inside_event : Cursor → Invocation → Bool → courses.Event Iteration Cursor
+  inside_event c i has = event_of (if has then kind.Iterate else kind.Close) Ordinary (λ now. Ok (if has then turned c i else standing c i.next)) (handed_in c i i.turning.turn) words c
+
+  inside_is : (c : Cursor) (i : Invocation) (has : Bool) → c.at ≡ at.Inside i → has_turn i.turning ≡ has → here c ≡ inside_event c i has
+  inside_is c i has at_is is = ap (event_when setting.arrays words c) at_is ∙ ap (inside_event c i) is
+
+  abbrev Past : Cursor → Invocation → Course → Type 0
+  Past c i left = FollowsCourse program words (behind_invocation c (at.Inside i)) left
+
+  same_close : (a b : Cursor) → ◌≡◌ {A = courses.Event Iteration Cursor} (courses.Close a) (courses.Close b) → a ≡ b
+  same_close a b is = cc
+
+  same_next : (a b : Cursor) (x y : Iteration) → courses.Iterate x a ≡ courses.Iterate y b → a ≡ b
+  same_next a b x y is = cc
+
+  same_handed : (a b : Cursor) (x y : Iteration) → courses.Iterate x a ≡ courses.Iterate y b → x ≡ y
+  same_handed a b x y is = cc
+
+  at_end : (c : Cursor) (i : Invocation) (left : Course) → here c ≡ courses.Close (standing c i.next) → i.turning.turn ≡ i.turning.trips → FollowsCourse program words c left
+      → BeginsWith program (handed_in c i) (Past c i) 0 i.turning.turn left
+  at_end c i course.End is over f = let clash = sym f ∙ is in cc
+  at_end c i (course.Failed cause line) is over f = f
+  at_end c i (course.Scalar purpose scalars rest) is over f = let clash = sym f.1 ∙ is in cc
+  at_end c i (course.Drain purpose scalars rest) is over f = let clash = sym f.2 ∙ is in cc
+  at_end c i (course.Iterate body scalars rest) is over f = let clash = sym f.2 ∙ is in cc
+  at_end c i (course.Close scalars rest) is over f =
+      let there : f.0 ≡ standing c i.next = same_close f.0 (standing c i.next) (sym f.1 ∙ is) in
+      let count : c.next ≡ c.next + (i.turning.trips - i.turning.turn) = omega arith in
+      subst (λ d. FollowsCourse program words d rest) (there ∙ ap (λ n. record c { at = at.Before i.next; next = n }) count) f.2
+
+  at_turn : (n : ℕ) (c : Cursor) (i : Invocation) (left : Course) → here c ≡ courses.Iterate (handed_in c i i.turning.turn) (turned c i) → i.turning.turn + suc n ≡ i.turning.trips
+      → ((rest : Course) → FollowsCourse program words (turned c i) rest → BeginsWith program (handed_in c i) (Past (turned c i) (record i { turning = one_passed i.turning })) n (i.turning.turn + 1) rest)
+      → FollowsCourse program words c left → BeginsWith program (handed_in c i) (Past c i) (suc n) i.turning.turn left
+  at_turn n c i course.End is count again f = let clash = sym f ∙ is in cc
+  at_turn n c i (course.Failed cause line) is count again f = f
+  at_turn n c i (course.Scalar purpose scalars rest) is count again f = let clash = sym f.1 ∙ is in cc
+  at_turn n c i (course.Drain purpose scalars rest) is count again f = let clash = sym f.2 ∙ is in cc
+  at_turn n c i (course.Close scalars rest) is count again f = let clash = sym f.1 ∙ is in cc
+  at_turn n c i (course.Iterate body scalars rest) is count again f =
+      let one = sym f.2 ∙ is in
+      let there : f.1 ≡ turned c i = same_next f.1 (turned c i) f.0 (handed_in c i i.turning.turn) one in
+      let what : f.0 ≡ handed_in c i i.turning.turn = same_handed f.1 (turned c i) f.0 (handed_in c i i.turning.turn) one in
+      let passed : c.next + 1 + (i.turning.trips - (i.turning.turn + 1)) ≡ c.next + (i.turning.trips - i.turning.turn) = omega arith in
+      let rest_is = again rest (subst (λ d. FollowsCourse program words d rest) there f.4) in (
+        ap (what_of program) (sym what) ∙ f.3,
+        subst (λ k. BeginsWith program (handed_in c i) (Past c i) n k rest) (add-one i.turning.turn)
+            (subst (λ m. BeginsWith program (handed_in c i) (FollowsCourse program words (record c { at = at.Before i.next; next = m })) n (i.turning.turn + 1) rest) passed rest_is),
+      )
+
+  whole : (n : ℕ) (left : Course) (c : Cursor) (i : Invocation) → c.at ≡ at.Inside i → i.turning.turn + n ≡ i.turning.trips → FollowsCourse program words c left
+      → BeginsWith program (handed_in c i) (Past c i) n i.turning.turn left
+  whole zero left c i at_is count f = at_end c i left (inside_is c i false at_is (le-ltb i.turning.turn i.turning.trips (omega arith))) (omega arith) f
+  whole (suc n) left c i at_is count f =
+      at_turn n c i left (inside_is c i true at_is (lt-ltb i.turning.turn i.turning.trips (omega arith))) count
+      (λ rest behind. whole n rest (turned c i) (record i { turning = one_passed i.turning }) refl (omega arith) behind) f
 
 pub cursors_follow : CursorsFollow
-cursors_follow program words c script = script (setting_of program words) (nest_of program words) (restarted program c) refl refl
-
--- an event in an invocation, by whether a turn is left
-abbrev inside_event : Setting → Cursor → Invocation → Bool → courses.Event (ℕ × List ℤ) Cursor
-inside_event setting c i has = event_of (if has then kind.Iterate else kind.Close) Ordinary
-    (λ words. Ok (if has then record c { at = at.Inside (record i { turning = one_passed i.turning }); next = counted_on c.next 1 } else standing c i.next)) (i.body, scalars_inside c.scalars i) setting.words c
-
--- the cursor behind an event, where it tells one
-abbrev onward : Cursor → courses.Event (ℕ × List ℤ) Cursor → Cursor
-onward c (courses.Iterate b later) = later
-onward c (courses.Close later) = later
-onward c other = c
-
-module _ (setting : Setting) (nest : Nest) where
-  abbrev Follow : Cursor → Course → Type 0
-  Follow c left = FollowsIn setting nest c left
-
-  abbrev Passed : Cursor → Invocation → Course → Type 0
-  Passed c i left = Follow (behind_invocation c (at.Inside i)) (behind_close left)
-
-  closed : (c : Cursor) (i : Invocation) → c.next < 2 ^ 64 → nat_lt i.turning.turn i.turning.trips ≡ false → standing c i.next ≡ behind_invocation c (at.Inside i)
-  closed c i few over =
-      let none : i.turning.trips ≤ i.turning.turn = ltb-false i.turning.turn i.turning.trips over in
-      let same : c.next ≡ counted_on c.next (i.turning.trips - i.turning.turn) = omega arith in
-      ap (λ n. record c { at = at.Before i.next; next = n }) same
-
-  passed_on : (c : Cursor) (i : Invocation) → nat_lt i.turning.turn i.turning.trips ≡ true
-      → behind_invocation (record c { at = at.Inside (record i { turning = one_passed i.turning }); next = counted_on c.next 1 }) (at.Inside (record i { turning = one_passed i.turning })) ≡ behind_invocation c (at.Inside i)
-  passed_on c i left =
-      let some : i.turning.turn < i.turning.trips = ltb-true i.turning.turn i.turning.trips left in
-      let same : counted_on (counted_on c.next 1) (i.turning.trips - (i.turning.turn + 1)) ≡ counted_on c.next (i.turning.trips - i.turning.turn) = omega arith in
-      ap (λ n. record c { at = at.Before i.next; next = n }) same
-
-  abbrev event_in : Cursor → courses.Event (ℕ × List ℤ) Cursor
-  event_in c = event_at setting.arrays setting.words c
-
-  at_iteration : (has : Bool) (body : ℕ) (scalars : List ℤ) (rest : Course) (c : Cursor) (i : Invocation)
-      → ((d : Cursor) (j : Invocation) → d.at ≡ at.Inside j → d.next < 2 ^ 64 → Follow d rest → Passed d j rest)
-      → nat_lt i.turning.turn i.turning.trips ≡ has → event_in c ≡ inside_event setting c i has → c.next < 2 ^ 64 → Follow c (course.Iterate body scalars rest) → Passed c i (course.Iterate body scalars rest)
-  at_iteration true body scalars rest c i again some event_is few follows =
-      let on : Cursor = record c { at = at.Inside (record i { turning = one_passed i.turning }); next = counted_on c.next 1 } in
-      let there : follows.1 ≡ on = ap (onward c) (sym follows.2 ∙ event_is) in
-      subst (λ d. Follow d (behind_close rest)) (passed_on c i some) (again on (record i { turning = one_passed i.turning }) refl (omega arith) (subst (λ d. Follow d rest) there follows.4))
-  at_iteration false body scalars rest c i again none event_is few follows = let clash = sym follows.2 ∙ event_is in cc
-
-  at_close : (has : Bool) (scalars : List ℤ) (rest : Course) (c : Cursor) (i : Invocation)
-      → nat_lt i.turning.turn i.turning.trips ≡ has → event_in c ≡ inside_event setting c i has → c.next < 2 ^ 64 → Follow c (course.Close scalars rest) → Passed c i (course.Close scalars rest)
-  at_close true scalars rest c i some event_is few follows = let clash = sym follows.1 ∙ event_is in cc
-  at_close false scalars rest c i none event_is few follows =
-      let there : follows.0 ≡ standing c i.next = ap (onward c) (sym follows.1 ∙ event_is) in
-      subst (λ d. Follow d rest) (there ∙ closed c i few none) follows.2
-
-  no_end : (has : Bool) (c : Cursor) (i : Invocation) → event_in c ≡ inside_event setting c i has → event_in c ≡ courses.End → ⊥
-  no_end true c i event_is other = let clash = sym event_is ∙ other in cc
-  no_end false c i event_is other = let clash = sym event_is ∙ other in cc
-
-  no_scalar : (has : Bool) (c : Cursor) (i : Invocation) (purpose : Purpose) (trap : Option Trap) (later : Cursor) → event_in c ≡ inside_event setting c i has → event_in c ≡ courses.Scalar purpose trap later → ⊥
-  no_scalar true c i purpose trap later event_is other = let clash = sym event_is ∙ other in cc
-  no_scalar false c i purpose trap later event_is other = let clash = sym event_is ∙ other in cc
-
-  no_drain : (has : Bool) (c : Cursor) (i : Invocation) (purpose : Purpose) (trap : List ℤ → Option Trap) (later : List ℤ → Cursor) → event_in c ≡ inside_event setting c i has → event_in c ≡ courses.Drain purpose trap later → ⊥
-  no_drain true c i purpose trap later event_is other = let clash = sym event_is ∙ other in cc
-  no_drain false c i purpose trap later event_is other = let clash = sym event_is ∙ other in cc
-
-  inside_is : (c : Cursor) (i : Invocation) → c.at ≡ at.Inside i → event_in c ≡ inside_event setting c i (has_turn i.turning)
-  inside_is c i at_is = ap (event_when setting.arrays setting.words c) at_is
-
-  whole : (left : Course) (c : Cursor) (i : Invocation) → c.at ≡ at.Inside i → c.next < 2 ^ 64 → Follow c left → Passed c i left
-  whole (course.Iterate body scalars rest) c i at_is few follows = at_iteration (has_turn i.turning) body scalars rest c i (whole rest) refl (inside_is c i at_is) few follows
-  whole (course.Close scalars rest) c i at_is few follows = at_close (has_turn i.turning) scalars rest c i refl (inside_is c i at_is) few follows
-  whole course.End c i at_is few follows = elim (no_end (has_turn i.turning) c i (inside_is c i at_is) follows) [ ]
-  whole (course.Failed cause line) c i at_is few follows = elim follows [ ]
-  whole (course.Scalar purpose scalars rest) c i at_is few follows = elim (no_scalar (has_turn i.turning) c i purpose _ _ (inside_is c i at_is) follows.1) [ ]
-  whole (course.Drain purpose scalars rest) c i at_is few follows = elim (no_drain (has_turn i.turning) c i purpose _ _ (inside_is c i at_is) follows.2) [ ]
-
-  pub inside_whole : (a : At) (c : Cursor) (left : Course) → c.at ≡ a → is_inside a ≡ true → c.next < 2 ^ 64 → Follow c left → Follow (behind_invocation c a) (behind_close left)
-  inside_whole (at.Inside i) c left at_is inside few follows = whole left c i at_is few follows
-  inside_whole (at.Before next) c left at_is inside few follows = cc
+cursors_follow program words c is =
+    follows_told program words (course.course_of program words) (restarted program c) (record { numbers = is.names; tells = restart_tells program c is.tells })
+    (is.script (setting_of program words) (nest_of program words) (restarted program c) refl refl)
 
 pub whole_invocations_follow : WholeInvocationsFollow
-whole_invocations_follow setting nest c left inside few follows = inside_whole setting nest c.at c left refl inside few follows
-
--- the script that a start finds is the program's
-pub starts : (program : Program) (c : Cursor) (count first : ℕ) → count ≡ length (bodies_of program) → PutsRegion [] count c.nodes first (λ (s : Setting). in_order (map (region_of s) program.regions)) next.End c.entry → IsScriptOf program c
-starts program c count first counted puts setting nest later same at_is =
-    let bodies : length (in_order (map (region_of setting) program.regions)).bodies ≡ length (bodies_of program) = ap length (regions_same setting program.regions) in
-    let told = puts.counts setting in
-    let none : first ≡ 0 = omega arith in
-    subst (λ f. FollowsIn setting nest later ((in_order (map (region_of setting) program.regions)).events f later.scalars (λ after. course.End))) none
-    (puts.enacts setting nest later (λ n this there. ap (λ nodes. slice_get nodes n) same ∙ there) at_is (λ after. course.End) (λ last same' at'. ap (event_when setting.arrays setting.words last) at'))
+whole_invocations_follow program words c i left is at_is f =
+    let tells : AtTells (naming_of program) (at.Inside i) = subst (AtTells (naming_of program)) at_is is.tells.at in
+    subst (λ a. BeginsWith program (handed_in c i) (FollowsCourse program words (behind_invocation c a)) (i.turning.trips - i.turning.turn) i.turning.turn left) (sym at_is)
+    (whole program words (i.turning.trips - i.turning.turn) left c i at_is (omega (arith, tells.turned)) f)

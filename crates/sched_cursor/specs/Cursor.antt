@@ -1,6 +1,6 @@
 -- A cursor, as plain data: its script, where it stands, the region that was entered, the scalars, and how many iterations
--- were passed.
-use Rattle.std.specs.Prelude.{ℕ, ℤ, List}
+-- were passed. `names` has 32 places: by their numbers, the names of the scheduler's scalars.
+use Rattle.std.specs.Prelude.{ℕ, ℤ, Option, List}
 use Rattle.sched_cursor.specs.declared.node.Next.{Next}
 use Rattle.sched_cursor.specs.declared.node.Node.{Node}
 use Rattle.sched_cursor.specs.declared.node.Region.{Region}
@@ -13,6 +13,7 @@ pub record Cursor : Type 0 where
   pub at : At
   pub region : Region
   pub scalars : List ℤ
+  pub names : List (Option ℕ)
   pub next : ℕ
 
 abbrev pub standing : Cursor → Next → Cursor

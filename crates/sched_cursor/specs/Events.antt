@@ -1,12 +1,13 @@
 -- The event at which a cursor stands, and the cursor behind it.
-use Rattle.std.specs.Prelude.{ℕ, ◌+◌, ◌-◌, ◌^◌, ℤ, Bool, true, false, if◌then◌else◌, Option, Some, None, Result, Ok, Err, List, slice_get, min}
+use Rattle.std.specs.Prelude.{ℕ, ◌+◌, ◌-◌, ℤ, pos, Bool, true, false, if◌then◌else◌, Option, Some, None, Result, Ok, Err, List, map, slice_get}
 use Rattle.std.specs.List.{list_any}
 use Rattle.std.specs.Option.{option_map_or}
 use Rattle.nest_syntax.specs.declared.names.Line.{Line}
 use Rattle.nest_syntax.specs.declared.operators.Cause.{Cause}
 use Rattle.nest_syntax.specs.declared.place.Place.{Place}
 use Rattle.nest_syntax.specs.Arrays.{Array}
-use Rattle.nest_syntax.specs.Value.{and_then, with_scalar, names_written}
+use Rattle.nest_syntax.specs.Words.{variable}
+use Rattle.nest_syntax.specs.Value.{and_then, scalar_at, with_scalar, names_written}
 use Rattle.nest_syntax.specs.Course.{Purpose, Ordinary}
 use Rattle.nest_syntax.specs.Outcome.{place_of_trap}
 use Rattle.settle_law.specs.Courses.{Trap}
@@ -20,6 +21,7 @@ use Rattle.sched_cursor.specs.declared.node.At.TheVariants as at
 use Rattle.sched_cursor.specs.declared.event.Event.{Event}
 use Rattle.sched_cursor.specs.declared.event.Event.TheVariants as event
 use Rattle.sched_cursor.specs.declared.event.Here.{Here}
+use Rattle.sched_cursor.specs.declared.event.Iteration.{Iteration}
 use Rattle.sched_cursor.specs.declared.step.Step.{Step}
 use Rattle.sched_cursor.specs.declared.step.Step.TheVariants as step
 use Rattle.sched_cursor.specs.Turning.{has_turn, variable_of, one_passed}
@@ -37,13 +39,9 @@ stepped c (step.Invoke invocation) = record c { at = at.Inside invocation }
 abbrev pub after_turn : Cursor → Region → Cursor
 after_turn c r = if has_turn r.turning then record c { at = at.Before r.items; region = record r { turning = one_passed r.turning }; scalars = with_scalar c.scalars r.name (variable_of r.turning) } else standing c r.leave
 
--- a count of iterations, which stays at the greatest number of 64 bits
-abbrev pub counted_on : ℕ → ℕ → ℕ
-counted_on n more = min (n + more) (2 ^ 64 - 1)
-
 -- the cursor behind the next iteration of the invocation that was entered, or behind its end
 abbrev pub after_iteration : Cursor → Invocation → Cursor
-after_iteration c i = if has_turn i.turning then record c { at = at.Inside (record i { turning = one_passed i.turning }); next = counted_on c.next 1 } else standing c i.next
+after_iteration c i = if has_turn i.turning then record c { at = at.Inside (record i { turning = one_passed i.turning }); next = c.next + 1 } else standing c i.next
 
 -- a trap with its line
 abbrev pub at_line : {A : Type 0} → Line → Result A Cause → Result A Trap
@@ -99,6 +97,23 @@ abbrev pub iteration_at : Cursor → At → ℕ × List ℤ
 iteration_at c (at.Before next) = (0, c.scalars)
 iteration_at c (at.Inside i) = (i.body, scalars_inside c.scalars i)
 
+-- the value of a scalar, 0 where there is none
+abbrev pub value_of : List ℤ → Option ℕ → ℤ
+value_of scalars name = option_map_or (scalar_at scalars) name (pos 0)
+
+-- the scalars of the scheduler, by their numbers
+abbrev pub env_of : Cursor → List ℤ
+env_of c = map (value_of c.scalars) c.names
+
+-- what is handed out at turn k of an invocation: its body, the variable and the scalars of the scheduler
+abbrev pub handed_in : Cursor → Invocation → ℕ → Iteration
+handed_in c i k = record { body = i.body; value = variable i.turning.low i.turning.step k; env = env_of c }
+
+-- what is handed out at the next iteration
+abbrev pub handed_at : Cursor → At → Iteration
+handed_at c (at.Before next) = record { body = 0; value = pos 0; env = env_of c }
+handed_at c (at.Inside i) = handed_in c i i.turning.turn
+
 -- the cursor behind an event, or its trap
 abbrev pub cursor_or : Cursor → Result Cursor Trap → Cursor
 cursor_or c (Ok later) = later
@@ -108,20 +123,28 @@ abbrev pub trap_in : Result Cursor Trap → Option Trap
 trap_in (Ok later) = None
 trap_in (Err trap) = Some trap
 
--- an event with the cursor behind it; an iteration is told by its body and its scalars
-abbrev pub event_of : Event → Purpose → (List ℤ → Result Cursor Trap) → ℕ × List ℤ → List ℤ → Cursor → courses.Event (ℕ × List ℤ) Cursor
+-- an event with the cursor behind it, on these opening words
+abbrev pub event_of : {B : Type 0} → Event → Purpose → (List ℤ → Result Cursor Trap) → B → List ℤ → Cursor → courses.Event B Cursor
 event_of event.Scalar purpose after iteration opening c = courses.Scalar purpose (trap_in (after opening)) (cursor_or c (after opening))
 event_of event.Drain purpose after iteration opening c = courses.Drain purpose (λ words. trap_in (after words)) (λ words. cursor_or c (after words))
 event_of event.Iterate purpose after iteration opening c = courses.Iterate iteration (cursor_or c (after opening))
 event_of event.Close purpose after iteration opening c = courses.Close (cursor_or c (after opening))
 event_of event.End purpose after iteration opening c = courses.End
 
-abbrev pub event_when : List Array → List ℤ → Cursor → At → courses.Event (ℕ × List ℤ) Cursor
-event_when arrays opening c a = event_of (kind_at arrays c a) (purpose_at c a) (λ words. after_at arrays c words a) (iteration_at c a) opening c
+-- The event at which a cursor stands, in a nest with these arrays and opening words: what is handed out at an iteration is
+-- its body, its variable and the scalars of the scheduler.
+abbrev pub event_when : List Array → List ℤ → Cursor → At → courses.Event Iteration Cursor
+event_when arrays opening c a = event_of (kind_at arrays c a) (purpose_at c a) (λ words. after_at arrays c words a) (handed_at c a) opening c
 
--- the event at which a cursor stands, in a nest with these arrays and opening words
-abbrev pub event_at : List Array → List ℤ → Cursor → courses.Event (ℕ × List ℤ) Cursor
+abbrev pub event_at : List Array → List ℤ → Cursor → courses.Event Iteration Cursor
 event_at arrays opening c = event_when arrays opening c c.at
+
+-- the same event, with the iteration told by its body and all scalars
+abbrev pub plain_event_when : List Array → List ℤ → Cursor → At → courses.Event (ℕ × List ℤ) Cursor
+plain_event_when arrays opening c a = event_of (kind_at arrays c a) (purpose_at c a) (λ words. after_at arrays c words a) (iteration_at c a) opening c
+
+abbrev pub plain_event_at : List Array → List ℤ → Cursor → courses.Event (ℕ × List ℤ) Cursor
+plain_event_at arrays opening c = plain_event_when arrays opening c c.at
 
 -- a trap of the scheduler, behind so many iterations
 abbrev pub placed : ℕ → Result Cursor Trap → Result Cursor Place
@@ -143,12 +166,31 @@ abbrev pub here_at : At → Option Here
 here_at (at.Before next) = None
 here_at (at.Inside i) = Some (record { body = i.body; low = i.turning.low; step = i.turning.step; trips = i.turning.trips; turn = i.turning.turn })
 
--- whether a cursor stands in an invocation
+-- whether a cursor stands in an invocation, and whether before an iteration of it
 abbrev pub is_inside : At → Bool
 is_inside (at.Before next) = false
 is_inside (at.Inside i) = true
 
+abbrev pub is_iterating : At → Bool
+is_iterating (at.Before next) = false
+is_iterating (at.Inside i) = has_turn i.turning
+
+-- the events at which it does
+abbrev pub is_of_invocation : Event → Bool
+is_of_invocation event.Scalar = false
+is_of_invocation event.Drain = false
+is_of_invocation event.Iterate = true
+is_of_invocation event.Close = true
+is_of_invocation event.End = false
+
+abbrev pub is_iteration : Event → Bool
+is_iteration event.Scalar = false
+is_iteration event.Drain = false
+is_iteration event.Iterate = true
+is_iteration event.Close = false
+is_iteration event.End = false
+
 -- the cursor behind the end of the invocation that was entered
 abbrev pub behind_invocation : Cursor → At → Cursor
 behind_invocation c (at.Before next) = c
-behind_invocation c (at.Inside i) = record c { at = at.Before i.next; next = counted_on c.next (i.turning.trips - i.turning.turn) }
+behind_invocation c (at.Inside i) = record c { at = at.Before i.next; next = c.next + (i.turning.trips - i.turning.turn) }

@@ -2,5 +2,8 @@ pub mod Turning
 pub mod Steps
 pub mod Cursor
 pub mod Events
+pub mod Doings
+pub mod Rooms
 pub mod Scripts
+pub mod Handed
 pub mod Laws

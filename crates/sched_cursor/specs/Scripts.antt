@@ -1,6 +1,6 @@
 -- No caller needs this. How a script carries out the items of a program: from a number of it on its nodes are followed as
 -- the item's events are, before whatever comes behind.
-use Rattle.std.specs.Prelude.{◌≡◌, ℕ, ◌+◌, ℤ, Some, List, map, length, slice_get}
+use Rattle.std.specs.Prelude.{◌≡◌, ℕ, ◌+◌, ◌*◌, ℤ, Some, List, map, length, slice_get}
 use Rattle.nest_syntax.specs.declared.tree.Loop.{Loop}
 use Rattle.nest_syntax.specs.declared.tree.Stmt.{Stmt}
 use Rattle.nest_syntax.specs.Course.{Course, Setting, Item, in_order, item_of}
@@ -10,7 +10,9 @@ use Rattle.sched_cursor.specs.declared.node.Header.{Header}
 use Rattle.sched_cursor.specs.declared.node.Node.{Node}
 use Rattle.sched_cursor.specs.declared.node.At.TheVariants as at
 use Rattle.sched_cursor.specs.Cursor.{Cursor}
-use Rattle.sched_cursor.specs.Events.{event_at}
+use Rattle.sched_cursor.specs.Events.{plain_event_at}
+use Rattle.sched_cursor.specs.Rooms.{Most, MostOf}
+use Rattle.sched_cursor.specs.Doings.{Doing, Naming, runs, AreTold, NodesTell}
 
 -- what stands in a script stands in a longer one
 abbrev pub Keeps : List Node → List Node → Type 0
@@ -18,7 +20,7 @@ Keeps nodes more = (n : ℕ) (this : Node) → slice_get nodes n ≡ Some this �
 
 -- A cursor follows a course that is left. What it hands out at an iteration is the iteration's body and scalars.
 abbrev pub FollowsIn : Setting → Nest → Cursor → Course → Type 0
-FollowsIn setting nest c left = Follows nest (λ (b : ℕ × List ℤ). b) (event_at setting.arrays setting.words) c left
+FollowsIn setting nest c left = Follows nest (λ (b : ℕ × List ℤ). b) (plain_event_at setting.arrays setting.words) c left
 
 -- whatever stands at `next` behind a cursor follows the rest of a course, in the same region
 abbrev pub Leads : Setting → Nest → Cursor → Next → (List ℤ → Course) → Type 0
@@ -43,13 +45,20 @@ header_of l = record { line = l.line; name = l.name; low = l.low; high = l.high;
 abbrev pub block_of : List Stmt → Setting → Item
 block_of stmts setting = in_order (map (item_of setting) stmts)
 
--- An item was put in front of a script. `first` is the number of the body that stands first behind it, and then in it.
-pub record Puts (nodes : List Node) (first : ℕ) (nodes' : List Node) (first' : ℕ) (item : Setting → Item) (next start : Next) : Type 0 where
+-- An item was put in front of a script, in which these things are done. `first` is the number of the body that stands first
+-- behind it, and then in it.
+pub record Puts (nodes : List Node) (first : ℕ) (nodes' : List Node) (first' : ℕ) (item : Setting → Item) (does : List Doing) (next start : Next) : Type 0 where
   pub keeps : Keeps nodes nodes'
   pub counts : (setting : Setting) → first' + length (item setting).bodies ≡ first
+  pub ran : first' + runs does ≡ first
+  pub tells : (naming : Naming) → AreTold naming first' does → NodesTell naming nodes → NodesTell naming nodes'
+  pub room : (longer : List Node) → Keeps nodes' longer → (k : ℕ) → Most longer next k → Most longer start (16777216 * runs does + k)
   pub enacts : Enacts nodes' item first' next start
 
-pub record PutsRegion (nodes : List Node) (first : ℕ) (nodes' : List Node) (first' : ℕ) (item : Setting → Item) (next start : Next) : Type 0 where
+pub record PutsRegion (nodes : List Node) (first : ℕ) (nodes' : List Node) (first' : ℕ) (item : Setting → Item) (does : List Doing) (next start : Next) : Type 0 where
   pub keeps : Keeps nodes nodes'
   pub counts : (setting : Setting) → first' + length (item setting).bodies ≡ first
+  pub ran : first' + runs does ≡ first
+  pub tells : (naming : Naming) → AreTold naming first' does → NodesTell naming nodes → NodesTell naming nodes'
+  pub room : (longer : List Node) → Keeps nodes' longer → (k : ℕ) → MostOf longer next k → MostOf longer start (281474976710656 * runs does + k)
   pub enacts : EnactsRegion nodes' item first' next start

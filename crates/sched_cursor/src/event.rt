@@ -24,3 +24,12 @@ pub struct Here {
     pub trips: u64,
     pub turn: u64,
 }
+
+/// What an iteration is handed out with: the number of its body, the value of the invocation's variable, 0 for an array
+/// statement, and the scalars of the scheduler by their numbers.
+#[derive(Clone, Copy, Debug, PartialEq, Eq)]
+pub struct Iteration {
+    pub body: u32,
+    pub value: i64,
+    pub env: [i64; 32],
+}

@@ -1,15 +1,23 @@
-//! The scheduler's course, one event at a time: the script of a program, found once, and the cursor that goes along it.
+//! The scheduler's course, one event at a time.
 //!
-//! In comes a program, out go the events that stand in its text, each with what comes behind it. A cursor is a place in
-//! that script with the values that it needs there, and the laws say that it follows the course of the program.
+//! In comes a checked program, out goes a cursor that walks its course: at each event it tells what kind it is, and goes
+//! behind it. A cursor takes its memory at the start, and each event costs a constant, apart from the expressions that it
+//! evaluates.
 #![tactic(auto)]
 
+mod advance;
+mod cursor;
 mod event;
 mod laws;
 mod node;
 mod script;
+mod start;
 mod step;
 mod turning;
 
-pub use event::{Event, Here};
-pub use laws::{const_words_suffice, cursors_follow, whole_invocations_follow};
+pub use cursor::Cursor;
+pub use event::{Event, Here, Iteration};
+pub use laws::{
+    bodies_inside, const_words_suffice, cursors_follow, cursors_stay, events_count,
+    fixed_words_are_const, whole_invocations_follow,
+};

@@ -1,9 +1,11 @@
 //! The events of a program that stand in its text, found from the last to the first: so what comes behind each is known.
 ghost use Rattle.std.specs.Prelude.{◌≡◌, ◌+◌, ◌++◌, [], ◌∷◌, ℕ, List, IfOk, map, length};
+ghost use Rattle.std.specs.List.{flat_map};
 ghost use Rattle.nest_syntax.specs.Course.{Setting, Item, Tested, chosen, in_order, item_of, tested_of, region_of};
 ghost use Rattle.sched_cursor.specs.declared.node.Next.TheVariants as following;
 ghost use Rattle.sched_cursor.specs.declared.node.Node.{Node as Event};
 ghost use Rattle.sched_cursor.specs.declared.node.Node.TheVariants as event;
+ghost use Rattle.sched_cursor.specs.Doings.{Doing, doings, doings_in_arm, doings_of, doings_in_region};
 ghost use Rattle.sched_cursor.specs.Scripts.{header_of, block_of, Puts, PutsRegion};
 
 use crate::node::{Header, Next, Node};
@@ -42,7 +44,7 @@ impl Script {
     /// Puts the regions of a program in front, and tells where they begin.
     pub(crate) fn regions(&mut self, alloc: Global, regions: &[Loop]) -> Result<Next, NoMemory>
         ensures { IfOk result (λ start. PutsRegion self.old.nodes.items self.old.first self.new.nodes.items self.new.first
-            (λ (s : Setting). in_order (map (region_of s) regions.now)) following.End start) }
+            (λ (s : Setting). in_order (map (region_of s) regions.now)) (flat_map doings_in_region regions.now) following.End start) }
     {
         let mut start = Next::End;
         for k in (0..regions.len()).rev() {
@@ -53,7 +55,7 @@ impl Script {
 
     fn region(&mut self, alloc: Global, region: &Loop, leave: Next) -> Result<Next, NoMemory>
         ensures { IfOk result (λ start. PutsRegion self.old.nodes.items self.old.first self.new.nodes.items self.new.first
-            (λ (s : Setting). region_of s region.now) leave start) }
+            (λ (s : Setting). region_of s region.now) (doings_in_region region.now) leave start) }
     {
         let items = self.block(alloc, region.body.as_slice(), Next::Turn)?;
         let header = copy_header(alloc, region)?;
@@ -67,7 +69,7 @@ impl Script {
     #[cycle(items)]
     fn block(&mut self, alloc: Global, stmts: &[Stmt], next: Next) -> Result<Next, NoMemory>
         ensures { IfOk result (λ start. Puts self.old.nodes.items self.old.first self.new.nodes.items self.new.first
-            (block_of stmts.now) next start) }
+            (block_of stmts.now) (doings_of stmts.now) next start) }
     {
         let mut start = next;
         for k in (0..stmts.len()).rev() {
@@ -79,7 +81,7 @@ impl Script {
     #[cycle(items)]
     fn item(&mut self, alloc: Global, item: &Stmt, next: Next) -> Result<Next, NoMemory>
         ensures { IfOk result (λ start. Puts self.old.nodes.items self.old.first self.new.nodes.items self.new.first
-            (λ (s : Setting). item_of s item.now) next start) }
+            (λ (s : Setting). item_of s item.now) (doings item.now) next start) }
     {
         match item {
             Stmt::Declare { line, name, value } => self.change(
@@ -125,9 +127,9 @@ impl Script {
         otherwise: Next,
         next: Next,
     ) -> Result<Next, NoMemory>
-        ensures { IfOk result (λ start. (nodes : List Event) (first : ℕ) (other : Setting → Item)
-            → Puts nodes first self.old.nodes.items self.old.first other next otherwise
-            → Puts nodes first self.new.nodes.items self.new.first (λ (s : Setting). chosen (map (tested_of s) arms.now) (other s)) next start) }
+        ensures { IfOk result (λ start. (nodes : List Event) (first : ℕ) (other : Setting → Item) (does : List Doing)
+            → Puts nodes first self.old.nodes.items self.old.first other does next otherwise
+            → Puts nodes first self.new.nodes.items self.new.first (λ (s : Setting). chosen (map (tested_of s) arms.now) (other s)) (flat_map doings_in_arm arms.now ++ does) next start) }
     {
         let mut start = otherwise;
         for k in (0..arms.len()).rev() {
@@ -144,9 +146,9 @@ impl Script {
         otherwise: Next,
         next: Next,
     ) -> Result<Next, NoMemory>
-        ensures { IfOk result (λ start. (nodes : List Event) (first : ℕ) (arms : Setting → List Tested) (other : Setting → Item)
-            → Puts nodes first self.old.nodes.items self.old.first (λ (s : Setting). chosen (arms s) (other s)) next otherwise
-            → Puts nodes first self.new.nodes.items self.new.first (λ (s : Setting). chosen (tested_of s arm.now ∷ arms s) (other s)) next start) }
+        ensures { IfOk result (λ start. (nodes : List Event) (first : ℕ) (arms : Setting → List Tested) (other : Setting → Item) (does : List Doing)
+            → Puts nodes first self.old.nodes.items self.old.first (λ (s : Setting). chosen (arms s) (other s)) does next otherwise
+            → Puts nodes first self.new.nodes.items self.new.first (λ (s : Setting). chosen (tested_of s arm.now ∷ arms s) (other s)) (doings_in_arm arm.now ++ does) next start) }
     {
         let taken = self.block(alloc, arm.body.as_slice(), next)?;
         let test = copy_expr(alloc, &arm.test)?;

@@ -52,7 +52,8 @@ impl Turning {
     }
 
     pub(crate) fn trips(&self) -> u64
-        ensures { result ≡ self.now.trips }
+        ensures same { result ≡ self.now.trips }
+        ensures reach { Reaches self.now.low self.now.step self.now.trips }
     {
         self.trips
     }
