@@ -1,13 +1,18 @@
 -- The engine keeps the laws of a machine, since its abstract machine does.
 use Rattle.std.specs.Prelude.{◌≡◌, ◌↔◌, ℕ, ◌+◌, ◌≤◌, Bool, true, false, nat_lt, ◌==◌, Option, None, Some, is_some, List, [], ◌∷◌, refl}
-use Rattle.std.specs.Option.{option_map, option_and_then}
+use Rattle.std.specs.Option.{option_map, option_map_or, option_and_then}
 use Rattle.std.proofs.Common.{arith, ap, ◌∙◌, sym, subst}
 use Rattle.std.proofs.lemmas.Bool.{le-ltb, ne_eqb, cond-false}
 use Rattle.nest_mean.specs.Nest.{Nest}
 use Rattle.progress_board.specs.declared.options.Options.{Options}
-use Rattle.progress_board.specs.declared.actors.Ask.TheVariants.{Ended}
+use Rattle.progress_board.specs.declared.actors.Row.TheVariants as board
+use Rattle.progress_board.specs.declared.actors.Work.{Work}
+use Rattle.progress_board.specs.declared.actors.Work.TheVariants.{Turn, Hop}
+use Rattle.progress_board.specs.declared.actors.Ask.TheVariants.{Ready, Ended}
+use Rattle.task_frame.specs.declared.piece.Piece.{Piece as BoardPiece}
+use Rattle.domore_machine.specs.Rows as rows
 use Rattle.progress_board.specs.Options.{IsInRange}
-use Rattle.progress_board.specs.Actors.{actors_of, is_ready, SomeEnabled, AllEnded}
+use Rattle.progress_board.specs.Actors.{actors_of, is_ready, asked_as, IsRowOf, SomeEnabled, AllEnded}
 use Rattle.settle_law.specs.Runs.{run}
 use Rattle.progress_board.specs.Runs.{IsReached, IsLegal}
 use Rattle.domore_machine.specs.Machine as machine
@@ -22,11 +27,15 @@ use Rattle.first_tasks.specs.Iterations.{what_in}
 use Rattle.first_tasks.specs.Pieces.{Piece}
 use Rattle.first_tasks.proofs.Forms.{form_of}
 use Rattle.first_tasks.proofs.Setups.{right}
-use Rattle.domore_engine.specs.Engine.{Engine, Table, Row_data, setup_of, setup_in, nest_in, program_in, opening, move_of, step, has_ended, answer, asked, is_finished, measure}
+use Rattle.domore_engine.specs.Engine.{Engine, Table, Row_data, setup_of, setup_in, nest_in, program_in, opening, move_of, step, has_ended, answer, asked, board_row, row_of, made_of, made_by, is_finished, measure}
 
 -- a legal state of the engine
 abbrev pub IsLegalEngine : Engine → Type 0
-IsLegalEngine = IsLegal (λ (e : Engine). e.job) (λ (e : Engine). e.options) opening step
+IsLegalEngine = IsLegal (λ (e : Engine). e.job) (λ (e : Engine). e.options) (λ job options e. e ≡ opening job options) step
+
+-- it is reached from the one opening state of its job and options
+pub opened_reached : (e : Engine) → IsLegalEngine e → IsReached step (opening e.job e.options) e
+opened_reached e legal = subst (λ (f : Engine). IsReached step f e) legal.opened legal.reached
 
 -- a step changes the state alone, as the abstract machine does
 pub record IsStepped (e : Engine) (actor : ℕ) (f : Engine) : Type 0 where
@@ -113,7 +122,7 @@ is_ended e actor over =
 pub stays : (e f : Engine) (actor other : ℕ) → IsLegalEngine e → asked e actor ≡ Ended → step e other ≡ Some f → asked f actor ≡ Ended
 stays e f actor other legal over is =
     let way = stepped e f other is in
-    let past = behind e legal.reached in
+    let past = behind e (opened_reached e legal) in
     subst (λ (g : Engine). asked g actor ≡ Ended) (sym way.new)
     (is_ended (record e { state = way.state }) actor
     (ended.stay Iteration Position Piece (setup_in e) (nest_in e.job) (what_in (program_in e.job)) Region (setup_right e.job e.options legal.allowed) past.history e.state way.state actor other past.leads (ended_is (has_ended e actor) (move_of e actor) over) way.stepped))
@@ -121,7 +130,7 @@ stays e f actor other legal over is =
 -- the machine is finished exactly where all are ended
 pub finishes : (e : Engine) → IsLegalEngine e → (is_finished e ≡ true) ↔ AllEnded asked e (actors_of e.options)
 finishes e legal =
-    let past = behind e legal.reached in
+    let past = behind e (opened_reached e legal) in
     let both = ended.finishes Iteration Position Piece (setup_in e) (nest_in e.job) (what_in (program_in e.job)) Region (setup_right e.job e.options legal.allowed) past.history e.state past.leads in (
       (λ over. λ actor below. is_ended e actor (both.0 over actor below)),
       (λ all. both.1 (λ actor below. ended_is (has_ended e actor) (move_of e actor) (all actor below))),
@@ -131,17 +140,48 @@ finishes e legal =
 pub falls : (e f : Engine) (actor : ℕ) → IsLegalEngine e → step e actor ≡ Some f → measure f + 1 ≤ measure e
 falls e f actor legal is =
     let way = stepped e f actor is in
-    let past = behind e legal.reached in
+    let past = behind e (opened_reached e legal) in
     let less = falling.falls Iteration Position Piece (setup_in e) (nest_in e.job) (what_in (program_in e.job)) Region (setup_right e.job e.options legal.allowed) past.history e.state way.state actor past.leads way.stepped in
     subst (λ (g : Engine). measure g + 1 ≤ measure e) (sym way.new) (omega (arith, less))
 
 -- a machine that isn't finished has a step
 pub progress : (e : Engine) → IsLegalEngine e → is_finished e ≡ false → SomeEnabled step e (actors_of e.options)
 progress e legal unfinished =
-    let past = behind e legal.reached in
+    let past = behind e (opened_reached e legal) in
     let can = goes_on Iteration Position Piece (setup_in e) (nest_in e.job) (what_in (program_in e.job)) Region (setup_right e.job e.options legal.allowed) past.history e.state past.leads unfinished in
     record { actor = can.actor; below = omega (arith, can.present); enabled = some_of (machine.step (setup_in e) e.state can.actor) can.enabled }
   where
     some_of : (o : Option Table) → is_some o ≡ true → is_some (option_map (λ (s : Table). let g : Engine = record e { state = s } in g) o) ≡ true
     some_of (Some s) some = refl
     some_of None some = some
+
+-- what is made is the row that was asked for
+asked_row : (row : rows.Row) → asked_as (board_row row) ≡ board_row row
+asked_row rows.Scalar = refl
+asked_row rows.Drain = refl
+asked_row rows.Dispatch = refl
+asked_row rows.Halt = refl
+asked_row rows.Take = refl
+asked_row rows.Pass = refl
+asked_row rows.Hop = refl
+asked_row rows.Finish = refl
+asked_row rows.Trap = refl
+asked_row rows.Drop = refl
+asked_row rows.End = refl
+
+names_move : (e : Engine) (over : Bool) (o : Option Row_data) (work : Work) → answer over o ≡ Ready work → IsRowOf work (option_map_or (made_of e) o (record { row = board.End; number = 0 })).row
+names_move e over (Some move) work is = let same : Turn (row_of move) ≡ work = cc in subst (λ w. IsRowOf w (row_of move)) same (asked_row (rows.row_of move))
+names_move e true None work is = absurd (cc)
+names_move e false None work is = absurd (cc)
+
+pub names : (e : Engine) (actor : ℕ) (work : Work) → asked e actor ≡ Ready work → IsRowOf work (made_by e actor).row
+names e actor work is = names_move e (has_ended e actor) (move_of e actor) work is
+
+-- no piece is asked for
+no_piece : (over : Bool) (o : Option Row_data) (piece : BoardPiece) → answer over o ≡ Ready (Hop piece) → ⊥
+no_piece over (Some move) piece is = cc
+no_piece true None piece is = cc
+no_piece false None piece is = cc
+
+pub asks_no_piece : (e : Engine) (actor : ℕ) (piece : BoardPiece) → asked e actor ≡ Ready (Hop piece) → ⊥
+asks_no_piece e actor piece is = no_piece (has_ended e actor) (move_of e actor) piece is

@@ -91,7 +91,7 @@ impl Domore {
 
     pub(crate) fn own_options(&self) -> &Options
         ensures is { result.now ≡ self.now.options }
-        ensures legal { IsLegal (λ m. m.job) (λ m. m.options) opening step self.now }
+        ensures legal { IsLegal (λ m. m.job) (λ m. m.options) (λ job options e. e ≡ opening job options) step self.now }
     {
         &self.options
     }
@@ -134,7 +134,7 @@ impl Domore {
 
     pub(crate) fn is_over(&self) -> bool
         ensures over { result ≡ is_finished self.now }
-        ensures legal { IsLegal (λ m. m.job) (λ m. m.options) opening step self.now }
+        ensures legal { IsLegal (λ m. m.job) (λ m. m.options) (λ job options e. e ≡ opening job options) step self.now }
     {
         self.table.halted && self.table.ended_are_over()
     }

@@ -1,5 +1,4 @@
-ghost use Rattle.std.specs.Prelude.{◌≡◌, ◌↔◌, IsTrue};
-ghost use Rattle.progress_board.specs.Actors.{work_of};
+ghost use Rattle.std.specs.Prelude.{◌≡◌};
 ghost use Rattle.domore_engine.specs.Engine.{opening, step, asked, made_by, is_finished, ending_of, words_of, facts_of, measure};
 
 use crate::domore::Domore;
@@ -8,14 +7,15 @@ use progress_board::{Ask, Ending, Facts, Given, Machine, Made, Options, Row, Wor
 use word_store::Words;
 
 impl Machine for Domore {
-    ghost use Rattle.std.specs.Prelude.{refl};
-    ghost use Rattle.domore_engine.specs.Laws.{keeps_job, keeps_options, readies, actors, stays, finishes, progress, falls};
+    ghost use Rattle.std.proofs.Common.{ap};
+    ghost use Rattle.domore_engine.specs.Engine.{Engine};
+    ghost use Rattle.domore_engine.specs.Laws.{keeps_job, keeps_options, readies, actors, names, stays, finishes, progress, falls};
 
     ghost job_of = { λ m. m.job };
 
     ghost options_of = { λ m. m.options };
 
-    ghost opening = { opening };
+    ghost opens = { λ job options e. e ≡ opening job options };
 
     ghost step = { step };
 
@@ -51,10 +51,12 @@ impl Machine for Domore {
 
     fn give(&mut self, actor: u8, given: Given) -> Result<Made, Ask> {
         let answer = self.ask(actor);
-        let row = row_given(given);
-        if !hands_out(answer, row) {
+        if !answer.is_met_by(&given) {
             return Err(answer);
         }
+        let Given::Turn(row) = given else {
+            unreachable!();
+        };
         let number = self.number(actor);
         self.make(actor, row);
         Ok(Made { row, number })
@@ -76,9 +78,9 @@ impl Machine for Domore {
         self.own_facts()
     }
 
-    ghost opens_job = { λ job options. refl };
+    ghost opens_job = { λ job options e opened. ap (λ (f : Engine). f.job) opened };
 
-    ghost opens_options = { λ job options. refl };
+    ghost opens_options = { λ job options e opened. ap (λ (f : Engine). f.options) opened };
 
     ghost keeps_job = { λ m n actor e. keeps_job m n actor e };
 
@@ -95,19 +97,6 @@ impl Machine for Domore {
     ghost progress = { progress };
 
     ghost falls = { falls };
-}
 
-fn row_given(given: Given) -> Row
-    ensures { work_of given ≡ Work.Turn result }
-{
-    match given {
-        Given::Turn(row) => row,
-    }
-}
-
-// Whether an answer hands out this row.
-fn hands_out(answer: Ask, row: Row) -> bool
-    ensures { IsTrue result ↔ (answer ≡ Ask.Ready (Work.Turn row)) }
-{
-    answer == Ask::Ready(Work::Turn(row))
+    ghost names = { names };
 }

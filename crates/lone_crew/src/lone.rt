@@ -1,10 +1,12 @@
-ghost use Rattle.std.specs.Prelude.{◌≡◌, ◌+◌, ◌<◌, ◌≤◌, true, [], ◌∷◌, ◌++◌, length, vec_len, vec_capacity, OnOk, OnErr};
+ghost use Rattle.std.specs.Prelude.{◌≡◌, ◌+◌, ◌<◌, ◌≤◌, true, ◌++◌, length, vec_len, vec_capacity, IfOk, OnOk, OnErr};
 ghost use Rattle.progress_board.specs.Actors.{actors_of, work_of};
 ghost use Rattle.progress_board.specs.Runs.{IsLegal, Agrees};
 ghost use Rattle.progress_board.specs.Rotation.{up_to, rounds, rotation, GoesOn, StopsIn};
+ghost use Rattle.lone_crew.specs.Turns.{Looked, Rotates};
 
 use nest_syntax::NoMemory;
 use progress_board::{Ask, Given, Machine, Work};
+use task_frame::work;
 
 /// Drives a machine to its end, on the caller's thread.
 ///
@@ -34,6 +36,22 @@ pub fn lone_run<M: Machine>(
 {
     let actors = count_actors(machine);
     follow(machine, schedule, history)?;
+    rotate(machine, actors, history)?;
+    Ok(())
+}
+
+// Looks at all actors, again and again, until the machine is finished.
+pub(crate) fn rotate<M: Machine>(
+    machine: &mut M,
+    actors: u8,
+    history: &mut Vec<u8>,
+) -> Result<(), NoMemory>
+    requires { actors ≡ actors_of (M.options_of machine.old) }
+    ensures finished { OnOk result (M.is_finished machine.new ≡ true) }
+    ensures rotates { OnOk result (Rotates M.step M.measure actors machine.old history.old.items machine.new history.new.items) }
+    ensures stopped { OnErr result (StopsIn M.step machine.old history.old.items (rounds actors (M.measure machine.old)) machine.new history.new.items) }
+    ensures room { OnErr result (vec_capacity history.old ≤ vec_len history.new) }
+{
     'rounds: while !machine.finished() {
         round(machine, actors, history)?;
     }
@@ -41,9 +59,9 @@ pub fn lone_run<M: Machine>(
 }
 
 // How many actors the machine has, the scheduler and the checker counted.
-fn count_actors<M: Machine>(machine: &M) -> u8
+pub(crate) fn count_actors<M: Machine>(machine: &M) -> u8
     ensures count { result ≡ actors_of (M.options_of machine.now) }
-    ensures legal { IsLegal M.job_of M.options_of M.opening M.step machine.now }
+    ensures legal { IsLegal M.job_of M.options_of M.opens M.step machine.now }
 {
     machine.options().workers + 2
 }
@@ -66,22 +84,22 @@ fn follow<M: Machine>(
     Ok(())
 }
 
-// Looks at an entry of a schedule, and passes over it where it is no actor's number.
-fn follow_entry<M: Machine>(
+// Lets the actor of a schedule's entry make its step. False says that it is none, or has none.
+pub(crate) fn follow_entry<M: Machine>(
     machine: &mut M,
     entry: u8,
     history: &mut Vec<u8>,
-) -> Result<(), NoMemory>
-    ensures goes { OnOk result (GoesOn M.step machine.old history.old.items (entry ∷ []) machine.new history.new.items) }
+) -> Result<bool, NoMemory>
+    ensures looked { IfOk result (Looked M.step machine.old history.old.items entry machine.new history.new.items) }
     ensures same { OnErr result ((machine.new ≡ machine.old) × (history.new.items ≡ history.old.items)) }
     ensures kept { M.options_of machine.new ≡ M.options_of machine.old }
     ensures room { OnErr result (vec_capacity history.old ≤ vec_len history.new) }
     ensures capacity { vec_capacity history.old ≤ vec_capacity history.new }
 {
-    if entry < count_actors(machine) {
-        return look(machine, entry, history);
+    if entry >= count_actors(machine) {
+        return Ok(false);
     }
-    Ok(())
+    look(machine, entry, history)
 }
 
 // Looks at each actor once, from 0 on.
@@ -99,31 +117,33 @@ fn round<M: Machine>(machine: &mut M, actors: u8, history: &mut Vec<u8>) -> Resu
     Ok(())
 }
 
-// Lets one actor make its step, if it has one. The room in the history is taken first, so that a step that was made is
+// Lets an actor make its step, if it has one. The room in the history is taken first, so that a step that was made is
 // never lost.
-fn look<M: Machine>(machine: &mut M, actor: u8, history: &mut Vec<u8>) -> Result<(), NoMemory>
+fn look<M: Machine>(machine: &mut M, actor: u8, history: &mut Vec<u8>) -> Result<bool, NoMemory>
     requires { actor < actors_of (M.options_of machine.old) }
-    ensures goes { OnOk result (GoesOn M.step machine.old history.old.items (actor ∷ []) machine.new history.new.items) }
+    ensures looked { IfOk result (Looked M.step machine.old history.old.items actor machine.new history.new.items) }
     ensures same { OnErr result ((machine.new ≡ machine.old) × (history.new.items ≡ history.old.items)) }
     ensures kept { M.options_of machine.new ≡ M.options_of machine.old }
     ensures room { OnErr result (vec_capacity history.old ≤ vec_len history.new) }
     ensures capacity { vec_capacity history.old ≤ vec_capacity history.new }
 {
-    if let Ask::Ready(work) = machine.ask(actor) {
-        history.reserve(1)?;
-        let Ok(_made) = machine.give(actor, done(work)) else {
-            unreachable!();
-        };
-        history.push(actor).unwrap();
-    }
-    Ok(())
+    let Ask::Ready(asked) = machine.ask(actor) else {
+        return Ok(false);
+    };
+    history.reserve(1)?;
+    let Ok(_made) = machine.give(actor, done(asked)) else {
+        unreachable!();
+    };
+    history.push(actor).unwrap();
+    Ok(true)
 }
 
 // Does the work that was asked for.
-fn done(work: Work) -> Given
-    ensures { work_of result ≡ work }
+fn done(asked: Work) -> Given
+    ensures { work_of result ≡ asked }
 {
-    match work {
+    match asked {
         Work::Turn(row) => Given::Turn(row),
+        Work::Hop(piece) => Given::Hop(work(piece)),
     }
 }

@@ -9,37 +9,38 @@ use Rattle.progress_board.specs.declared.actors.Ask.TheVariants.{Ended}
 use Rattle.progress_board.specs.Options.{IsInRange}
 use Rattle.progress_board.specs.Actors.{is_ready, AllEnded}
 use Rattle.settle_law.specs.Runs.{run}
-use Rattle.progress_board.specs.Runs.{IsReached, IsLegal}
+use Rattle.progress_board.specs.Runs.{IsLegal}
 use Rattle.progress_board.proofs.Runs.{reached_step, run_keeps}
 
-module _ {S : Type 0} (job_of : S → Nest) (options_of : S → Options) (opening : Nest → Options → S) (step : S → ℕ → Option S)
+module _ {S : Type 0} (job_of : S → Nest) (options_of : S → Options) (opens : Nest → Options → S → Type 0) (step : S → ℕ → Option S)
     (keeps_job : (s t : S) (a : ℕ) → step s a ≡ Some t → job_of t ≡ job_of s) (keeps_options : (s t : S) (a : ℕ) → step s a ≡ Some t → options_of t ≡ options_of s) where
   -- one step more
-  pub legal_step : (s t : S) (a : ℕ) → IsLegal job_of options_of opening step s → step s a ≡ Some t → IsLegal job_of options_of opening step t
+  pub legal_step : (s t : S) (a : ℕ) → IsLegal job_of options_of opens step s → step s a ≡ Some t → IsLegal job_of options_of opens step t
   legal_step s t a legal e = record {
     runs = subst CanRun (sym (keeps_job s t a e)) legal.runs;
     allowed = subst IsInRange (sym (keeps_options s t a e)) legal.allowed;
-    reached =
-        let from : opening (job_of s) (options_of s) ≡ opening (job_of t) (options_of t) =
-        ap (λ (j : Nest). opening j (options_of s)) (sym (keeps_job s t a e)) ∙ ap (λ (o : Options). opening (job_of t) o) (sym (keeps_options s t a e)) in
-        subst (λ (v : S). IsReached step v t) from (reached_step step (opening (job_of s) (options_of s)) s t a legal.reached e);
+    first = legal.first;
+    opened = rw (keeps_job s t a e, keeps_options s t a e) legal.opened;
+    reached = reached_step step legal.first s t a legal.reached e;
   }
 
   -- a whole run more
-  pub legal_run : (s t : S) (history : List ℕ) → IsLegal job_of options_of opening step s → run step s history ≡ Some t → IsLegal job_of options_of opening step t
-  legal_run s t history legal ran = run_keeps step (IsLegal job_of options_of opening step) legal_step s t history legal ran
+  pub legal_run : (s t : S) (history : List ℕ) → IsLegal job_of options_of opens step s → run step s history ≡ Some t → IsLegal job_of options_of opens step t
+  legal_run s t history legal ran = run_keeps step (IsLegal job_of options_of opens step) legal_step s t history legal ran
 
   -- a run keeps the options
   pub options_run : (s t : S) (history : List ℕ) → run step s history ≡ Some t → options_of t ≡ options_of s
   options_run s t history ran = run_keeps step (λ (v : S). options_of v ≡ options_of s) (λ u v a same e. keeps_options u v a e ∙ same) s t history refl ran
 
 -- an opening state is legal
-pub legal_opening : {S : Type 0} (job_of : S → Nest) (options_of : S → Options) (opening : Nest → Options → S) (step : S → ℕ → Option S) (job : Nest) (options : Options)
-    → job_of (opening job options) ≡ job → options_of (opening job options) ≡ options → CanRun job → IsInRange options → IsLegal job_of options_of opening step (opening job options)
-legal_opening job_of options_of opening step job options same_job same_options runs allowed = record {
+pub legal_opening : {S : Type 0} (job_of : S → Nest) (options_of : S → Options) (opens : Nest → Options → S → Type 0) (step : S → ℕ → Option S) (job : Nest) (options : Options) (s : S)
+    → opens job options s → job_of s ≡ job → options_of s ≡ options → CanRun job → IsInRange options → IsLegal job_of options_of opens step s
+legal_opening job_of options_of opens step job options s opened same_job same_options runs allowed = record {
   runs = subst CanRun (sym same_job) runs;
   allowed = subst IsInRange (sym same_options) allowed;
-  reached = record { history = []; ran = rw (same_job, same_options) refl };
+  first = s;
+  opened = rw (same_job, same_options) opened;
+  reached = record { history = []; ran = refl };
 }
 
 -- what isn't some is none

@@ -154,3 +154,11 @@ module _ {S : Type 0} (step : S → ℕ → Option S) where
       let same : ((schedule ++ rounds n k) ++ up_to n) ++ more ≡ schedule ++ rounds n m =
       ap (λ (l : List ℕ). l ++ more) (append_assoc schedule (rounds n k) (up_to n)) ∙ append_assoc schedule (rounds n (suc k)) more ∙ ap (λ (l : List ℕ). schedule ++ l) (sym split) in
       subst (λ (l : List ℕ). StopsIn step s history l u longest) same there
+
+  -- one that stopped within rounds, behind a schedule
+  pub stops_in_rounds : (s t u : S) (n k m : ℕ) (history longer longest schedule : List ℕ) → GoesOn step s history schedule t longer → StopsIn step t longer (rounds n k) u longest
+      → k ≤ m → StopsIn step s history (schedule ++ rounds n m) u longest
+  stops_in_rounds s t u n k m history longer longest schedule goes stops few =
+      let (more, split) = rounds_front n k m few in
+      let there = stops_more s u history (schedule ++ rounds n k) more longest (stops_behind s t u history longer longest schedule (rounds n k) goes stops) in
+      subst (λ (l : List ℕ). StopsIn step s history l u longest) (append_assoc schedule (rounds n k) more ∙ ap (λ (l : List ℕ). schedule ++ l) (sym split)) there

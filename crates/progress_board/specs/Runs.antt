@@ -11,12 +11,14 @@ pub record IsReached {S : Type 0} (step : S → ℕ → Option S) (from to : S) 
   pub history : List ℕ
   pub ran : run step from history ≡ Some to
 
--- A state is legal where its job can be run, its options are in their ranges, and it is reached from the opening state
--- of its own job and options.
-pub record IsLegal {S : Type 0} (job_of : S → Nest) (options_of : S → Options) (opening : Nest → Options → S) (step : S → ℕ → Option S) (s : S) : Type 0 where
+-- A state is legal where its job can be run, its options are in their ranges, and it is reached from a state in which a
+-- machine opens on its own job and options.
+pub record IsLegal {S : Type 0} (job_of : S → Nest) (options_of : S → Options) (opens : Nest → Options → S → Type 0) (step : S → ℕ → Option S) (s : S) : Type 0 where
   pub runs : CanRun (job_of s)
   pub allowed : IsInRange (options_of s)
-  pub reached : IsReached step (opening (job_of s) (options_of s)) s
+  pub first : S
+  pub opened : opens (job_of s) (options_of s) first
+  pub reached : IsReached step first s
 
 -- What a driver appends to a history is exactly the list of the steps that it made, in order: a legal history from the
 -- state before to the state afterwards.

@@ -1,3 +1,9 @@
+ghost use Rattle.std.specs.Prelude.{◌≡◌, ◌↔◌, IsTrue};
+ghost use Rattle.progress_board.specs.declared.actors.Ask.TheVariants.{Ready};
+ghost use Rattle.progress_board.specs.Actors.{work_of};
+
+use task_frame::{Piece, Worked};
+
 /// A row of an engine's step table: what one step does.
 #[derive(Clone, Copy, Debug, PartialEq, Eq)]
 pub enum Row {
@@ -24,14 +30,17 @@ pub enum Row {
 }
 
 /// What is to be done for a step.
-#[derive(Clone, Copy, Debug, PartialEq, Eq)]
+#[derive(Debug, Drop, PartialEq, Eq)]
 pub enum Work {
     /// The machine makes this row by itself. Both rows of the checker are asked for as `Check`.
     Turn(Row),
+    /// The piece with which an iteration goes on is to be worked on. By the stop that it comes to, the row is a hop, or
+    /// the finish or the trap of the iteration.
+    Hop(Piece),
 }
 
 /// What a machine answers an actor that asks for its work.
-#[derive(Clone, Copy, Debug, PartialEq, Eq)]
+#[derive(Debug, Drop, PartialEq, Eq)]
 pub enum Ask {
     /// The work of the one enabled row.
     Ready(Work),
@@ -42,9 +51,23 @@ pub enum Ask {
 }
 
 /// The work that an actor gives back, done.
-#[derive(Clone, Copy, Debug, PartialEq, Eq)]
+#[derive(Debug, Drop)]
 pub enum Given {
     Turn(Row),
+    Hop(Worked),
+}
+
+impl Ask {
+    /// Whether what is given is the work that is asked for.
+    pub fn is_met_by(&self, given: &Given) -> bool
+        ensures { IsTrue result ↔ (self.now ≡ Ready (work_of given.now)) }
+    {
+        match (self, given) {
+            (Ask::Ready(Work::Turn(asked)), Given::Turn(row)) => asked == row,
+            (Ask::Ready(Work::Hop(asked)), Given::Hop(worked)) => asked.is_same(worked.piece()),
+            _ => false,
+        }
+    }
 }
 
 /// A step that was made: its row, and the number that tells of what, as the machine defines it.

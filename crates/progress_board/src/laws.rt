@@ -11,15 +11,15 @@ use crate::machine::Machine;
 
 /// No legal history is longer than the measure of the opening state.
 pub fn is_bounded<M: Machine>()
-    ensures { (job : Job) (options : Options) (history : List ℕ) (m : M) → CanRun job → IsInRange options → run M.step (M.opening job options) history ≡ Some m → length history ≤ M.measure (M.opening job options) }
+    ensures { (job : Job) (options : Options) (first last : M) (history : List ℕ) → CanRun job → IsInRange options → M.opens job options first → run M.step first history ≡ Some last → length history ≤ M.measure first }
 {}
 
 /// The rotation is a complete history, whatever schedule it begins with.
 pub fn rotation_completes<M: Machine>()
-    ensures { (job : Job) (options : Options) (schedule : List ℕ) → CanRun job → IsInRange options → IsComplete M.step M.is_finished (M.opening job options) (rotation M.step M.measure (M.opening job options) (actors_of options) schedule) }
+    ensures { (job : Job) (options : Options) (first : M) (schedule : List ℕ) → CanRun job → IsInRange options → M.opens job options first → IsComplete M.step M.is_finished first (rotation M.step M.measure first (actors_of options) schedule) }
 {}
 
 /// A history that finishes the machine can't be extended.
 pub fn is_over<M: Machine>()
-    ensures { (job : Job) (options : Options) (history more : List ℕ) (m : M) → CanRun job → IsInRange options → IsComplete M.step M.is_finished (M.opening job options) history → run M.step (M.opening job options) (history ++ more) ≡ Some m → more ≡ [] }
+    ensures { (job : Job) (options : Options) (first last : M) (history more : List ℕ) → CanRun job → IsInRange options → M.opens job options first → IsComplete M.step M.is_finished first history → run M.step first (history ++ more) ≡ Some last → more ≡ [] }
 {}

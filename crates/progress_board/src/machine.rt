@@ -4,10 +4,11 @@ ghost use Rattle.word_store.specs.declared.memory.Words.{Words};
 ghost use Rattle.progress_board.specs.declared.options.Options.{Options};
 ghost use Rattle.progress_board.specs.declared.actors.Ask.{Ask};
 ghost use Rattle.progress_board.specs.declared.actors.Made.{Made};
+ghost use Rattle.progress_board.specs.declared.actors.Work.{Work};
 ghost use Rattle.progress_board.specs.declared.facts.Ending.{Ending};
 ghost use Rattle.progress_board.specs.declared.facts.Facts.{Facts};
 ghost use Rattle.progress_board.specs.declared.actors.Ask.TheVariants.{Ready, Ended};
-ghost use Rattle.progress_board.specs.Actors.{actors_of, work_of, is_ready, SomeEnabled, AllEnded};
+ghost use Rattle.progress_board.specs.Actors.{actors_of, work_of, is_ready, IsRowOf, SomeEnabled, AllEnded};
 ghost use Rattle.progress_board.specs.Runs.{IsLegal};
 
 use crate::actors::{Ask, Given, Made};
@@ -26,7 +27,8 @@ pub trait Machine: Send + Drop {
 
     ghost options_of: { Self → Options };
 
-    ghost opening: { Job → Options → Self };
+    // The states in which a machine opens on a job and options. They differ in what is made of the job once, as its code.
+    ghost opens: { Job → Options → Self → Type 0 };
 
     ghost step: { Self → ℕ → Option Self };
 
@@ -51,7 +53,7 @@ pub trait Machine: Send + Drop {
     /// The options that the machine was opened with.
     fn options(&self) -> &Options
         ensures is { result.now ≡ options_of self.now }
-        ensures legal { IsLegal job_of options_of opening step self.now };
+        ensures legal { IsLegal job_of options_of opens step self.now };
 
     /// What the actor has to do. `Ready` comes exactly where one of its rows is enabled, `Ended` exactly where its part
     /// is ended, and `NotYet` in every other state.
@@ -69,7 +71,7 @@ pub trait Machine: Send + Drop {
     /// Whether all actors have ended their parts.
     fn finished(&self) -> bool
         ensures says { result ≡ is_finished self.now }
-        ensures legal { IsLegal job_of options_of opening step self.now };
+        ensures legal { IsLegal job_of options_of opens step self.now };
 
     /// How the machine ended. `Unfinished` comes exactly where it isn't finished.
     fn ending(&self) -> Ending
@@ -84,10 +86,10 @@ pub trait Machine: Send + Drop {
     fn facts(&self) -> &Facts
         ensures { result.now ≡ facts_of self.now };
 
-    // The opening state is of its job and options, and each step keeps them.
-    ghost opens_job: { (job : Job) (options : Options) → job_of (opening job options) ≡ job };
+    // An opening state is of its job and options, and each step keeps them.
+    ghost opens_job: { (job : Job) (options : Options) (m : Self) → opens job options m → job_of m ≡ job };
 
-    ghost opens_options: { (job : Job) (options : Options) → options_of (opening job options) ≡ options };
+    ghost opens_options: { (job : Job) (options : Options) (m : Self) → opens job options m → options_of m ≡ options };
 
     ghost keeps_job: { (m n : Self) (actor : ℕ) → step m actor ≡ Some n → job_of n ≡ job_of m };
 
@@ -96,16 +98,19 @@ pub trait Machine: Send + Drop {
     // An actor is asked to work exactly where it has a step. Numbers that are no actor's have none.
     ghost readies: { (m : Self) (actor : ℕ) → is_ready (asked m actor) ≡ is_some (step m actor) };
 
-    ghost actors: { (m : Self) (actor : ℕ) → IsLegal job_of options_of opening step m → actors_of (options_of m) ≤ actor → step m actor ≡ None };
+    ghost actors: { (m : Self) (actor : ℕ) → IsLegal job_of options_of opens step m → actors_of (options_of m) ≤ actor → step m actor ≡ None };
 
     // An actor that has ended its part stays so, and the machine is finished exactly where all have.
-    ghost stays: { (m n : Self) (actor other : ℕ) → IsLegal job_of options_of opening step m → asked m actor ≡ Ended → step m other ≡ Some n → asked n actor ≡ Ended };
+    ghost stays: { (m n : Self) (actor other : ℕ) → IsLegal job_of options_of opens step m → asked m actor ≡ Ended → step m other ≡ Some n → asked n actor ≡ Ended };
 
-    ghost finishes: { (m : Self) → IsLegal job_of options_of opening step m → (is_finished m ≡ true) ↔ AllEnded asked m (actors_of (options_of m)) };
+    ghost finishes: { (m : Self) → IsLegal job_of options_of opens step m → (is_finished m ≡ true) ↔ AllEnded asked m (actors_of (options_of m)) };
+
+    // What is made is a row of the work that was asked for.
+    ghost names: { (m : Self) (actor : ℕ) (work : Work) → asked m actor ≡ Ready work → IsRowOf work (made_by m actor).row };
 
     // In a machine that isn't finished some actor has a step.
-    ghost progress: { (m : Self) → IsLegal job_of options_of opening step m → is_finished m ≡ false → SomeEnabled step m (actors_of (options_of m)) };
+    ghost progress: { (m : Self) → IsLegal job_of options_of opens step m → is_finished m ≡ false → SomeEnabled step m (actors_of (options_of m)) };
 
     // Each step makes the measure smaller.
-    ghost falls: { (m n : Self) (actor : ℕ) → IsLegal job_of options_of opening step m → step m actor ≡ Some n → measure n + 1 ≤ measure m };
+    ghost falls: { (m n : Self) (actor : ℕ) → IsLegal job_of options_of opens step m → step m actor ≡ Some n → measure n + 1 ≤ measure m };
 }

@@ -1,21 +1,29 @@
 -- The relay keeps the laws of a machine.
 use Rattle.std.specs.Prelude.{◌≡◌, ◌↔◌, ℕ, ◌+◌, ◌<◌, ◌≤◌, ◌%◌, Bool, true, false, Option, None, Some, is_some, refl}
-use Rattle.std.specs.Option.{option_map}
+use Rattle.std.specs.Option.{option_map, option_map_or}
 use Rattle.std.proofs.Common.{arith, ap, ◌∙◌, sym, subst, ⊎_elim}
 use Rattle.std.proofs.lemmas.Bool.{cases_lt, cases_Bool}
 use Rattle.std.proofs.lemmas.Bool.Decides.{nat_tests}
 use Rattle.nest_mean.specs.Nest.{Nest, CanRun}
 use Rattle.progress_board.specs.Options.{IsInRange}
-use Rattle.progress_board.specs.Runs.{IsReached}
+use Rattle.progress_board.specs.Runs.{IsReached, IsLegal}
 use Rattle.progress_board.specs.declared.options.Options.{Options}
-use Rattle.progress_board.specs.declared.actors.Ask.TheVariants.{Ended}
+use Rattle.progress_board.specs.declared.actors.Row.TheVariants.{End}
+use Rattle.progress_board.specs.declared.actors.Work.{Work}
+use Rattle.progress_board.specs.declared.actors.Work.TheVariants.{Turn, Hop}
+use Rattle.task_frame.specs.declared.piece.Piece.{Piece}
+use Rattle.progress_board.specs.declared.actors.Ask.TheVariants.{Ready, Ended}
 use Rattle.progress_board.specs.declared.facts.Facts.{Facts}
-use Rattle.progress_board.specs.Actors.{actors_of, is_ready, SomeEnabled, AllEnded}
+use Rattle.progress_board.specs.Actors.{actors_of, is_ready, asked_as, IsRowOf, SomeEnabled, AllEnded}
 use Rattle.progress_board.proofs.Runs.{reached_step, run_keeps}
 use Rattle.toy_machine.specs.State.{State}
-use Rattle.toy_machine.specs.Tokens.{Move, Hands, Halts, Takes, move_of, state_after, step, has_ended, answer, asked, is_finished, measure, opening, no_facts}
+use Rattle.toy_machine.specs.Tokens.{Move, Hands, Halts, Takes, move_of, state_after, step, row_of, has_ended, answer, asked, made_of, made_by, is_finished, measure, opening, no_facts}
 use Rattle.toy_machine.specs.Kept.{IsSound, IsKept}
 use Rattle.toy_machine.specs.Guards.{Guard, moved, guarded}
+
+-- a legal state is reached from the one opening state of its job and options
+pub opened_reached : (s : State) → IsLegal (λ (t : State). t.job) (λ (t : State). t.options) (λ job options t. t ≡ opening job options) step s → IsReached step (opening s.job s.options) s
+opened_reached s legal = subst (λ (t : State). IsReached step t s) legal.opened legal.reached
 
 -- job and options stay
 same_job : (s : State) (move : Move) → (state_after s move).job ≡ s.job
@@ -162,3 +170,26 @@ kept_move s actor move facts e kept = record {
       (reached_step step (opening s.job s.options) s (state_after s move) actor kept.reached (rw e refl));
   counted = kept.counted ∙ ap no_facts (sym (same_options s move));
 }
+
+-- what is made is the row that was asked for
+asked_row : (row : Move) → asked_as (row_of row) ≡ row_of row
+asked_row Hands = refl
+asked_row Halts = refl
+asked_row Takes = refl
+
+names_move : (s : State) (ended : Bool) (o : Option Move) (work : Work) → answer ended o ≡ Ready work → IsRowOf work (option_map_or (made_of s) o (record { row = End; number = 0 })).row
+names_move s ended (Some move) work e = let same : Turn (row_of move) ≡ work = cc in subst (λ w. IsRowOf w (row_of move)) same (asked_row move)
+names_move s true None work e = absurd (cc)
+names_move s false None work e = absurd (cc)
+
+pub names : (s : State) (actor : ℕ) (work : Work) → asked s actor ≡ Ready work → IsRowOf work (made_by s actor).row
+names s actor work e = names_move s (has_ended s actor) (move_of s actor) work e
+
+-- no piece is asked for
+no_piece : (ended : Bool) (o : Option Move) (piece : Piece) → answer ended o ≡ Ready (Hop piece) → ⊥
+no_piece ended (Some move) piece e = cc
+no_piece true None piece e = cc
+no_piece false None piece e = cc
+
+pub asks_no_piece : (s : State) (actor : ℕ) (piece : Piece) → asked s actor ≡ Ready (Hop piece) → ⊥
+asks_no_piece s actor piece e = no_piece (has_ended s actor) (move_of s actor) piece e

@@ -156,14 +156,14 @@ fn facts_of_none(options: Options) -> Facts
 impl Machine for Relay {
     ghost use Rattle.progress_board.specs.Runs.{IsLegal};
     ghost use Rattle.toy_machine.specs.State.{State};
-    ghost use Rattle.toy_machine.specs.Laws.{keeps_job, keeps_options, readies, actors, stays, finishes, progress, falls};
-    ghost use Rattle.std.specs.Prelude.{refl};
+    ghost use Rattle.toy_machine.specs.Laws.{opened_reached, keeps_job, keeps_options, readies, actors, stays, finishes, progress, falls, names};
+    ghost use Rattle.std.proofs.Common.{ap};
 
     ghost job_of = { λ s. s.job };
 
     ghost options_of = { λ s. s.options };
 
-    ghost opening = { opening };
+    ghost opens = { λ job options s. s ≡ opening job options };
 
     ghost step = { step };
 
@@ -199,10 +199,12 @@ impl Machine for Relay {
 
     fn give(&mut self, actor: u8, given: Given) -> Result<Made, Ask> {
         let answer = self.ask(actor);
-        let Given::Turn(row) = given;
-        if answer != Ask::Ready(Work::Turn(row)) {
+        if !answer.is_met_by(&given) {
             return Err(answer);
         }
+        let Given::Turn(row) = given else {
+            unreachable!();
+        };
         Ok(self.make(actor, row))
     }
 
@@ -226,9 +228,9 @@ impl Machine for Relay {
         &self.facts
     }
 
-    ghost opens_job = { λ job options. refl };
+    ghost opens_job = { λ job options m opened. ap (λ (s : State). s.job) opened };
 
-    ghost opens_options = { λ job options. refl };
+    ghost opens_options = { λ job options m opened. ap (λ (s : State). s.options) opened };
 
     ghost keeps_job = { λ m n actor e. keeps_job m n actor e };
 
@@ -242,7 +244,9 @@ impl Machine for Relay {
 
     ghost finishes = { λ m legal. finishes m legal.allowed.some_worker };
 
-    ghost progress = { λ m legal unfinished. progress m legal.allowed.some_worker legal.reached unfinished };
+    ghost progress = { λ m legal unfinished. progress m legal.allowed.some_worker (opened_reached m legal) unfinished };
 
     ghost falls = { λ m n actor legal e. falls m n actor e };
+
+    ghost names = { names };
 }

@@ -2,6 +2,7 @@ use Rattle.std.proofs.lemmas.Result.{err_from_is_err_and}
 use Rattle.std.proofs.Common.{◌≡◌, ℕ, ◌+◌, suc, ◌∙◌, arith, subst}
 use Rattle.progress_board.specs.Rotation.{up_to, GoesOn}
 use Rattle.progress_board.proofs.Rotation.{up_to_front, goes_more}
+use Rattle.lone_crew.proofs.Making.{looked_goes}
 use Rattle.lone_crew.proofs.lone.round.Goals as goal
 
 pub returns-in_err-look-clause-stopped : goal.returns-in_err-look-clause-stopped
@@ -15,7 +16,8 @@ pub loop-actor-preserved : goal.loop-actor-preserved
 loop-actor-preserved g c = record {
   goes =
       let next : suc c.loop-actor.actor ≡ c.loop-actor.actor + 1 = omega arith in
-      let further = goes_more g.M.Machine.step _ _ _ _ _ _ _ _ c.loop-actor.invariant.goes c.in_ok-look.ensures.goes in
+      let looked = looked_goes g.M.Machine.step _ _ _ _ _ _ c.in_ok-look.ensures.looked in
+      let further = goes_more g.M.Machine.step _ _ _ _ _ _ _ _ c.loop-actor.invariant.goes looked in
       subst (λ (n : ℕ). GoesOn g.M.Machine.step c.args.machine.now c.args.history.now.items (up_to n) c.look.new.machine c.look.new.history.items) next further;
   kept = c.in_ok-look.ensures.kept ∙ c.loop-actor.invariant.kept;
   capacity = omega arith;
