@@ -1,0 +1,8 @@
+use Rattle.nest_gen.proofs.Left.{drawn_on, state_on}
+use Rattle.nest_gen.proofs.draws.Draws.take.Goals as goal
+
+pub loop-turn-preserved : goal.loop-turn-preserved
+loop-turn-preserved c = record {
+  draws = drawn_on _ _ _ _ _ _ _ _ _ c.loop-turn-test.true c.in_ok-push.ensures.items c.next.ensures.state c.next.ensures.draw c.loop-turn.invariant.draws;
+  state = state_on _ _ _ _ _ c.loop-turn-test.true c.next.ensures.state c.loop-turn.invariant.state;
+}

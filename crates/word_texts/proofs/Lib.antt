@@ -1,0 +1,7 @@
+mod Cuts
+mod Exact
+mod Given
+mod Rows
+mod Rules
+mod Taken
+mod Turns
