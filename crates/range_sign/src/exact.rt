@@ -4,7 +4,7 @@ ghost use Rattle.addr_slice.specs.Claims.{is_set};
 ghost use Rattle.range_sign.specs.Overlap.{any_below, writes_into, conflict_at};
 ghost use Rattle.range_sign.specs.Exact.{Exact, holds};
 
-use crate::signature::Signature;
+use crate::signature::{MOST_ARRAYS, Signature};
 use addr_slice::WordSet;
 use nest_syntax::NoMemory;
 use std::alloc::Global;
@@ -115,6 +115,9 @@ impl Signature for ExactSign {
     ghost with_note = { with_note };
 
     fn make(alloc: Global, lengths: &[u64]) -> Result<ExactSign, NoMemory> {
+        if lengths.len() > MOST_ARRAYS {
+            return Err(NoMemory);
+        }
         let mut starts = Vec::with_capacity(alloc, lengths.len())?;
         let mut count = 0usize;
         for length in lengths {

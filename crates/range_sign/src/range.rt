@@ -3,7 +3,7 @@ ghost use Rattle.word_store.specs.Memory.{most_words};
 ghost use Rattle.range_sign.specs.Overlap.{any_below, conflict_at};
 ghost use Rattle.range_sign.specs.Ranges.{Ranges, spans_at, holds, EndsInside};
 
-use crate::signature::Signature;
+use crate::signature::{MOST_ARRAYS, Signature};
 use crate::spans::{NO_SPANS, Spans, conflict, with_span};
 use nest_syntax::NoMemory;
 use std::alloc::Global;
@@ -74,6 +74,9 @@ impl Signature for RangeSign {
     ghost with_note = { with_note };
 
     fn make(alloc: Global, lengths: &[u64]) -> Result<RangeSign, NoMemory> {
+        if lengths.len() > MOST_ARRAYS {
+            return Err(NoMemory);
+        }
         Ok(RangeSign {
             sizes: Vec::from_slice(alloc, lengths)?,
             spans: vec![in alloc; NO_SPANS; lengths.len()]?,

@@ -6,6 +6,9 @@ ghost use Rattle.range_sign.specs.Overlap.{overlap_of};
 use nest_syntax::NoMemory;
 use std::alloc::Global;
 
+/// The most arrays that a signature is made for.
+pub(crate) const MOST_ARRAYS: usize = 1_048_576;
+
 /// What a task noted of its accesses: two sets of words, those read and those written. An array is named by its number in
 /// order of declaration, a word by its array and its place in it, all from 0. Only `make` takes memory.
 ///
@@ -26,12 +29,12 @@ pub trait Signature: Send + Drop {
 
     ghost with_note: { Self → ℕ → ℕ → Bool → Self };
 
-    /// Nothing is noted, of arrays of these lengths: at most 1,048,576 together, and no more arrays than that.
+    /// Nothing is noted, of arrays of these lengths: at most 1,048,576 together. More arrays than that, which only lengths of
+    /// 0 allow, are answered as out of memory.
     fn make(alloc: Global, lengths: &[u64]) -> Result<Self, NoMemory>
     where
         Self: Sized,
         requires words { sum lengths.now ≤ most_words }
-        requires arrays { length lengths.now ≤ most_words }
         ensures is { IfOk result (λ made. made ≡ nothing lengths.now) }
         ensures sizes { IfOk result (λ made. sizes_of made ≡ lengths.now) };
 

@@ -6,7 +6,6 @@ use Rattle.std.specs.Option.{option_map_or}
 use Rattle.nest_syntax.specs.declared.place.Place.{Place}
 use Rattle.nest_syntax.specs.Course.{Purpose, Ordinary, Header}
 use Rattle.nest_syntax.specs.Outcome.{Done as Ends_with, TrappedAt, place_of_trap, Event as Passed, Computes as Computed, Drains as Drained}
-use Rattle.settle_law.specs.Trees.{Tree}
 use Rattle.settle_law.specs.Traces.{Access, iteration, Each, settle, part}
 use Rattle.settle_law.specs.Claims.{Claims}
 use Rattle.settle_law.specs.Courses.{Nest, Trap, Onward, family_of, iteration_at, reached, outcome, events}
@@ -16,7 +15,7 @@ use Rattle.settle_law.proofs.Nests.{reached_after}
 use Rattle.settle_law.proofs.Tasks.{left_go}
 use Rattle.spec_machine.specs.Invocations.{End, Scalar, Drain, Invoke, Outside, one_by_one}
 use Rattle.spec_machine.specs.Facts.{Task, Pair, same_task, same_pair, Abort, Overlaps, Facts, computed, drained}
-use Rattle.spec_machine.specs.Machine.{Setup, State, Seat, Stopped, Epoch, Move, DoScalar, DoDrain, DoOpen, DoClose, DoCommit, DoRestore, DoConclude, DoBegin, DoRead, DoWrite, DoGo, DoNext, DoFinish, DoFail, DoTrap, DoLetGo, DoStop, DoCheck, DoAbort, fresh_seat, seat_at, done_at, pairs, is_unordered, is_passed, due, overlap_of, scalar_after, state_after}
+use Rattle.spec_machine.specs.Machine.{Setup, State, Stopped, Epoch, Move, DoScalar, DoDrain, DoOpen, DoClose, DoCommit, DoRestore, DoConclude, DoBegin, DoRead, DoWrite, DoGo, DoNext, DoFinish, DoFail, DoTrap, DoLetGo, DoStop, DoCheck, DoAbort, fresh_seat, seat_at, done_at, pairs, is_unordered, is_passed, due, overlap_of, scalar_after, state_after}
 use Rattle.spec_machine.specs.Table.{In, IsGoing, IsFree, IsCut, Enabled}
 use Rattle.spec_machine.specs.Runs.{trace_after, ending_of}
 use Rattle.spec_machine.specs.Segments.{behind_trap, coming, segments_of, segments_ahead}
@@ -31,7 +30,7 @@ use Rattle.spec_machine.proofs.Orders.{lawful_calm, calm_at_0, traps_at, true_wo
 use Rattle.spec_machine.proofs.Courses.{Crossed, crossed, event_says}
 use Rattle.spec_machine.proofs.Segmenting.{scalar_ahead, drain_ahead, open_ahead, close_whole, Present, present}
 use Rattle.spec_machine.proofs.Causes.{overlap_blamed}
-use Rattle.spec_machine.proofs.WorkerRows.{none_some, quiet, left_at, read_row, write_row, go_row, next_row, finish_row, fail_row, trap_row, let_go_row, stop_row, begin_row}
+use Rattle.spec_machine.proofs.WorkerRows.{none_some, quiet, others_kept, left_at, read_row, write_row, go_row, next_row, finish_row, fail_row, trap_row, let_go_row, stop_row, begin_row}
 
 pub computed_segments : (purpose : Purpose) (facts : Facts) → (computed purpose facts).segments ≡ facts.segments
 computed_segments Ordinary facts = refl
@@ -43,12 +42,6 @@ module _ {B C P G : Type 0} (m : Setup B C P G) (nest : Nest) (what : B × ℕ �
 
   abbrev pub S : Plan
   S = plan m i.first s.next s.epochs
-
-  abbrev pub family : ℕ → Tree
-  family = family_of m.system.fixed nest
-
-  abbrev pub seat : ℕ → Seat P G
-  seat u = seat_at s.seats u
 
   keeps : NestKeepsFixed m.system.fixed nest
   keeps = followed_keeps m.system nest what (λ (x : B × ℕ). m.entry x.0 x.1) (one_by_one m.event) (Outside start) setup.begins setup.follows
@@ -244,7 +237,7 @@ module _ {B C P G : Type 0} (m : Setup B C P G) (nest : Nest) (what : B × ℕ �
       untrapped (inr none) = none
 
   -- what a state is that may conclude: it ends as the nest does
-  ends_trapped : s.abort ≡ None → (t : Place) → s.trap ≡ Some t → ((v : ℕ) → v < m.width → (seat v).hand ≡ Stopped) → outcome nest ≡ TrappedAt t
+  ends_trapped : s.abort ≡ None → (t : Place) → s.trap ≡ Some t → ((v : ℕ) → v < m.width → (seat_at s.seats v).hand ≡ Stopped) → outcome nest ≡ TrappedAt t
   ends_trapped calm t is all = traps_at m nest what start noted setup i.first s.next s.epochs i.chain i.known s.mark s.words i.marked s.seats s.distance s.passed s.trap trace i.width sound
       (lawful_calm m nest what start noted setup i.first s.next s.epochs i.chain i.known s.mark s.words i.marked s.seats s.distance s.passed s.trap trace i.width sound (calm_at_0 m nest what start noted setup i.first s.next s.epochs i.chain i.known s.mark s.words i.marked s.seats s.distance s.passed s.trap trace i.width sound (i.strict (subst IsSome (sym is) refl))))
       t.number t.cause t.line ok.inside.0 ok.inside.1 below ok.trapped
@@ -264,32 +257,22 @@ module _ {B C P G : Type 0} (m : Setup B C P G) (nest : Nest) (what : B × ℕ �
           let stopped = hand_is m nest what start noted setup i.first s.next s.epochs i.chain s.mark s.words s.seats s.distance s.passed s.trap trace i.width sound (S.owner k) own Stopped (all (S.owner k) own) in
           subst (λ o. BelowTrap m nest noted S trace o (S.owner k)) is stopped.1 k inside refl lt
 
-  conclude_row : (u : ℕ) → IsGoing m s u → (IsSome s.trap × ((v : ℕ) → v < m.width → (seat v).hand ≡ Stopped)) ⊎ ((s.trap ≡ None) × (s.epochs ≡ []) × ((m.event s.cursor ≡ End) ⊎ IsSome s.early)) → Kept (state_after m s u DoConclude) trace
-  conclude_row u going why = record {
-    first = i.first;
+  conclude_row : (u : ℕ) → IsGoing m s u → (IsSome s.trap × ((v : ℕ) → v < m.width → (seat_at s.seats v).hand ≡ Stopped)) ⊎ ((s.trap ≡ None) × (s.epochs ≡ []) × ((m.event s.cursor ≡ End) ⊎ IsSome s.early)) → Kept (state_after m s u DoConclude) trace
+  conclude_row u going why = others_kept m nest what start noted setup s trace i _ _ _ _ _ _ _ _ refl (record {
     width = i.width;
-    marked = i.marked;
-    chain = i.chain;
-    known = i.known;
-    course = i.course;
-    early = i.early;
-    segments = record { committed = i.segments.committed; are = i.segments.are; counts = i.segments.counts; whole = i.segments.whole };
-    room = i.room;
-    filled = i.filled;
     either = i.either;
     strict = i.strict;
-    within = i.within;
     sound = i.sound;
     aborted = λ cause is. absurd (none_some going.calm is);
     over = λ over. by_trap s.trap refl why;
-  }
+  })
     where
       by_early : s.trap ≡ None → s.epochs ≡ [] → (early : Option Place) → s.early ≡ early → (m.event s.cursor ≡ End) ⊎ IsSome s.early → ending_of s ≡ outcome nest
       by_early none empty (Some t) is why = ap (λ o. option_map_or TrappedAt o (option_map_or TrappedAt s.early (Ends_with s.words))) none ∙ ap (λ o. option_map_or TrappedAt o (Ends_with s.words)) is ∙ sym ((subst (EarlyTrap m nest what s.next) is i.early).2 s.words (at_mark going.calm empty))
       by_early none empty None is (inl end) = ap (λ o. option_map_or TrappedAt o (option_map_or TrappedAt s.early (Ends_with s.words))) none ∙ ap (λ o. option_map_or TrappedAt o (Ends_with s.words)) is ∙ sym ((event_says m nest what (i.course is).events s.next s.cursor End (i.course is).behind end).2 s.words (at_mark going.calm empty))
       by_early none empty None is (inr some) = absurd (true≢false (sym (subst IsSome is some)))
 
-      by_trap : (trap : Option Place) → s.trap ≡ trap → (IsSome s.trap × ((v : ℕ) → v < m.width → (seat v).hand ≡ Stopped)) ⊎ ((s.trap ≡ None) × (s.epochs ≡ []) × ((m.event s.cursor ≡ End) ⊎ IsSome s.early)) → ending_of s ≡ outcome nest
+      by_trap : (trap : Option Place) → s.trap ≡ trap → (IsSome s.trap × ((v : ℕ) → v < m.width → (seat_at s.seats v).hand ≡ Stopped)) ⊎ ((s.trap ≡ None) × (s.epochs ≡ []) × ((m.event s.cursor ≡ End) ⊎ IsSome s.early)) → ending_of s ≡ outcome nest
       by_trap trap is (inr (none, empty, end)) = by_early none empty s.early refl end
       by_trap None is (inl (some, all)) = absurd (true≢false (sym (subst IsSome is some)))
       by_trap (Some t) is (inl (some, all)) = ap (λ o. option_map_or TrappedAt o (option_map_or TrappedAt s.early (Ends_with s.words))) is ∙ sym (ends_trapped going.calm t is all)
@@ -309,40 +292,20 @@ module _ {B C P G : Type 0} (m : Setup B C P G) (nest : Nest) (what : B × ℕ �
     early_finished = let q = pairs_in m.width (length s.epochs) p found.among in let a : p.early.epoch < p.late.epoch = q.rises in let b : p.late.epoch ≤ done_at s.seats p.early.worker = (finished p.early.worker q.early_own).0 in omega arith
 
     check_row : (u : ℕ) → s.concluded ≡ false → overlap_of m s.seats p ≡ None → Kept (state_after m s u (DoCheck p)) trace
-    check_row u going apart = record {
-      first = i.first;
+    check_row u going apart = others_kept m nest what start noted setup s trace i _ _ _ _ _ _ _ _ refl (record {
       width = i.width;
-      marked = i.marked;
-      chain = i.chain;
-      known = i.known;
-      course = i.course;
-      early = i.early;
-      segments = record { committed = i.segments.committed; are = i.segments.are; counts = i.segments.counts; whole = i.segments.whole };
-      room = i.room;
-      filled = i.filled;
       either = i.either;
       strict = i.strict;
-      within = i.within;
       sound = λ c. sound_check m nest what start noted setup S s.mark s.words s.seats s.distance s.passed s.trap trace p (record { early = early_finished; late = late_finished; apart = λ un. apart }) (i.sound c);
       aborted = λ cause at. absurd (none_some calm at);
       over = λ over. absurd (true≢false (sym over ∙ going));
-    }
+    })
 
     abort_row : (u array : ℕ) → s.concluded ≡ false → overlap_of m s.seats p ≡ Some array → Kept (state_after m s u (DoAbort p array)) trace
-    abort_row u array going overlaps = record {
-      first = i.first;
+    abort_row u array going overlaps = others_kept m nest what start noted setup s trace i _ _ _ _ _ _ _ _ refl (record {
       width = i.width;
-      marked = i.marked;
-      chain = i.chain;
-      known = i.known;
-      course = i.course;
-      early = i.early;
-      segments = record { committed = i.segments.committed; are = i.segments.are; counts = i.segments.counts; whole = i.segments.whole };
-      room = i.room;
-      filled = i.filled;
       either = inr untrapped;
       strict = i.strict;
-      within = i.within;
       sound = λ c. absurd (let no : Some (Overlaps p array) ≡ None = c in cc);
       aborted = λ why at. subst (AbortOk m nest what start (state_after m s u (DoAbort p array))) (let e : Some (Overlaps p array) ≡ Some why = at in some_is e) (record {
         given = let l : p.late.epoch < length s.epochs = (pairs_in m.width (length s.epochs) p found.among).late in omega arith;
@@ -350,7 +313,7 @@ module _ {B C P G : Type 0} (m : Setup B C P G) (nest : Nest) (what : B × ℕ �
         caused = λ claims size held. overlap_blamed m nest what start noted setup i.first s.next s.epochs i.chain i.known s.mark s.words i.marked s.seats s.distance s.passed s.trap trace i.width (i.sound calm) claims size held now.more s.facts.segments now.segment i.within p array found.among found.unordered (leb-true _ _ found.unordered) late_finished overlaps;
       });
       over = λ over. absurd (true≢false (sym over ∙ going));
-    }
+    })
       where
         some_is : {x y : Abort} → Some x ≡ Some y → x ≡ y
         some_is e = cc
@@ -381,7 +344,7 @@ module _ {B C P G : Type 0} (m : Setup B C P G) (nest : Nest) (what : B × ℕ �
   invariant_row u (DoBegin hand) (working, lt, near, below, is) = quiet (Kept _) trace (begin_row m nest what start noted setup s trace i u hand working lt near is)
   invariant_row u (DoRead k w next) at = read_row m nest what start noted setup s trace i u k w next at.piece (m.system.fixed w) at.working at.stops refl
   invariant_row u (DoWrite k w value next) at = write_row m nest what start noted setup s trace i u k w value next at.piece at.working at.stops
-  invariant_row u (DoGo k next) at = quiet (Kept _) trace (go_row m nest what start noted setup s trace i u k at.piece next at.working (left_go m.system (family k) (part k trace) at.piece next (left_at m nest what start noted setup s trace i u k at.piece at.working.calm at.working.own at.working.holds) at.stops).0)
+  invariant_row u (DoGo k next) at = quiet (Kept _) trace (go_row m nest what start noted setup s trace i u k at.piece next at.working (left_go m.system (family_of m.system.fixed nest k) (part k trace) at.piece next (left_at m nest what start noted setup s trace i u k at.piece at.working.calm at.working.own at.working.holds) at.stops).0)
   invariant_row u (DoNext k piece) (j, at, is, high, begins) = quiet (Kept _) trace (next_row m nest what start noted setup s trace i u j k piece at is high begins)
   invariant_row u DoFinish why = quiet (Kept _) trace (finish_row m nest what start noted setup s trace i u why)
   invariant_row u DoFail (k, cause, line, at, far) = quiet (Kept _) trace (fail_row m nest what start noted setup s trace i u k cause line at far)

@@ -1,5 +1,5 @@
 -- The rows of a worker keep the invariant.
-use Rattle.std.proofs.Common.{◌≡◌, ℕ, suc, ◌+◌, ◌<◌, ◌≤◌, ◌⊎◌, ℤ, false, Option, Some, None, IsSome, List, [], ◌∷◌, ◌++◌, length, slice_set, slice_index_or, nat_le, refl, sym, ap, ◌∙◌, subst, inl, inr, ⊎_elim, arith, append-nil, length-set}
+use Rattle.std.proofs.Common.{◌≡◌, ℕ, suc, ◌+◌, ◌<◌, ◌≤◌, ◌⊎◌, ℤ, Bool, true, false, Option, Some, None, IsSome, List, [], ◌∷◌, ◌++◌, length, slice_set, slice_index_or, nat_le, refl, sym, ap, ◌∙◌, subst, inl, inr, ⊎_elim, arith, append-nil, length-set}
 use Rattle.std.proofs.lemmas.Bool.{cases_eq, cases_lt, true≢false}
 use Rattle.std.specs.Option.{option_map_or}
 use Rattle.nest_syntax.specs.declared.names.Line.{Line}
@@ -12,12 +12,13 @@ use Rattle.settle_law.specs.Trees.{Tree}
 use Rattle.settle_law.specs.Traces.{Access, Read, Write, iteration, Sees, apply, part}
 use Rattle.settle_law.specs.Tasks.{Left, Loads, Stores, Finishes, Traps}
 use Rattle.settle_law.specs.Claims.{Claims}
-use Rattle.settle_law.specs.Courses.{Nest, family_of}
+use Rattle.settle_law.specs.Courses.{Nest, family_of, outcome}
 use Rattle.settle_law.proofs.Commuting.{other_word}
 use Rattle.settle_law.proofs.Tasks.{left_read, left_told, left_write, left_trapped}
-use Rattle.spec_machine.specs.Facts.{Task, Pair, Abort, Fails, Overlaps}
+use Rattle.spec_machine.specs.Facts.{Task, Pair, Abort, Fails, Overlaps, Facts}
 use Rattle.spec_machine.specs.Machine.{Setup, State, Seat, Hand, Idle, Empty, Running, Stopped, DoBegin, DoWrite, DoNext, DoFinish, DoFail, DoTrap, DoLetGo, DoStop, seat_at, done_at, is_unordered, from, to, piece_at, sign_at, overlap_of, first_hand, noted_in, seat_after, state_after}
 use Rattle.spec_machine.specs.Table.{IsWorking, IsAt, IsLeft}
+use Rattle.spec_machine.specs.Runs.{ending_of}
 use Rattle.spec_machine.specs.Theorems.{IsSetupFor, Tells}
 use Rattle.spec_machine.specs.Invariant.{Plan, plan, IsOf, AbortOk, Done, HandOk, Sound, Invariant}
 use Rattle.spec_machine.proofs.Plans.{in_block}
@@ -54,26 +55,48 @@ module _ {B C P G : Type 0} (m : Setup B C P G) (nest : Nest) (what : B × ℕ �
   abbrev pub seat : ℕ → Seat P G
   seat u = seat_at s.seats u
 
-  -- a worker's row, with no abort
-  worker_kept : (u : ℕ) (y : Seat P G) (words : List ℤ) (trap : Option Place) (made : List Access) → s.concluded ≡ false → s.abort ≡ None → (IsSome trap → s.distance ≡ 0) → Sound m nest noted S s.mark words (slice_set s.seats u y) s.distance s.passed trap made → Kept (record s { words = words; seats = slice_set s.seats u y; trap = trap }) made
-  worker_kept u y words trap made going calm strict sound = record {
+  -- A row that leaves the open epochs, the scheduler, the marked words and the commits, as most rows do: what it tells of the
+  -- state behind it. All else of the invariant is as it was.
+  pub record Told (t : State B C P G) (made : List Access) : Type 0 where
+    pub width : length t.seats ≡ m.width
+    pub either : (t.abort ≡ None) ⊎ (t.trap ≡ None)
+    pub strict : IsSome t.trap → t.distance ≡ 0
+    pub sound : t.abort ≡ None → Sound m nest noted S t.mark t.words t.seats t.distance t.passed t.trap made
+    pub aborted : (cause : Abort) → t.abort ≡ Some cause → AbortOk m nest what start t cause
+    pub over : t.concluded ≡ true → ending_of t ≡ outcome nest
+
+  pub others_kept : (words : List ℤ) (seats : List (Seat P G)) (passed : List Pair) (abort : Option Abort) (trap : Option Place) (concluded : Bool) (facts : Facts) (made : List Access) → s.facts.segments ≡ facts.segments
+      → Told (record s { words = words; seats = seats; passed = passed; abort = abort; trap = trap; concluded = concluded; facts = facts }) made
+      → Kept (record s { words = words; seats = seats; passed = passed; abort = abort; trap = trap; concluded = concluded; facts = facts }) made
+  others_kept words seats passed abort trap concluded facts made commits told = record {
     first = i.first;
-    width = length-set s.seats u y ∙ i.width;
+    width = told.width;
     marked = i.marked;
     chain = i.chain;
     known = i.known;
     course = i.course;
     early = i.early;
-    segments = record { committed = i.segments.committed; are = i.segments.are; counts = i.segments.counts; whole = i.segments.whole };
+    segments = record { committed = i.segments.committed; are = i.segments.are; counts = i.segments.counts ∙ commits; whole = i.segments.whole };
     room = i.room;
     filled = i.filled;
+    either = told.either;
+    strict = told.strict;
+    within = i.within;
+    sound = told.sound;
+    aborted = told.aborted;
+    over = told.over;
+  }
+
+  -- a worker's row, with no abort
+  worker_kept : (u : ℕ) (y : Seat P G) (words : List ℤ) (trap : Option Place) (made : List Access) → s.concluded ≡ false → s.abort ≡ None → (IsSome trap → s.distance ≡ 0) → Sound m nest noted S s.mark words (slice_set s.seats u y) s.distance s.passed trap made → Kept (record s { words = words; seats = slice_set s.seats u y; trap = trap }) made
+  worker_kept u y words trap made going calm strict sound = others_kept words (slice_set s.seats u y) s.passed s.abort trap s.concluded s.facts made refl (record {
+    width = length-set s.seats u y ∙ i.width;
     either = inl calm;
     strict = strict;
-    within = i.within;
     sound = λ c. sound;
     aborted = λ cause is. absurd (none_some calm is);
     over = λ over. absurd (true≢false (sym over ∙ going));
-  }
+  })
 
   -- an iteration at which a worker stands
   pub left_at : (u k : ℕ) (piece : P) → s.abort ≡ None → u < m.width → (seat u).hand ≡ Running k piece → Left m.system (family k) (part k trace) piece
@@ -139,20 +162,10 @@ module _ {B C P G : Type 0} (m : Setup B C P G) (nest : Nest) (what : B × ℕ �
 
   -- an iteration traps at a distance above 0: the segment is given up
   pub fail_row : (u k : ℕ) (cause : Cause) (line : Line) → IsAt m s u k (Traps cause line) → 0 < s.distance → Kept (state_after m s u DoFail) trace
-  fail_row u k cause line at far = record {
-    first = i.first;
+  fail_row u k cause line at far = others_kept _ _ _ _ _ _ _ _ refl (record {
     width = length-set s.seats u (record (seat_at s.seats u) { hand = Idle }) ∙ i.width;
-    marked = i.marked;
-    chain = i.chain;
-    known = i.known;
-    course = i.course;
-    early = i.early;
-    segments = record { committed = i.segments.committed; are = i.segments.are; counts = i.segments.counts; whole = i.segments.whole };
-    room = i.room;
-    filled = i.filled;
     either = inr (untrapped s.trap refl);
     strict = i.strict;
-    within = i.within;
     sound = λ calm. absurd (let no : Some (Fails this) ≡ None = calm in cc);
     aborted = λ why is. subst (AbortOk m nest what start (state_after m s u DoFail)) (let e : Some (Fails this) ≡ Some why = is in some_is e) (record {
       given = let l : (seat u).done < length s.epochs = ok.1 in omega arith;
@@ -160,7 +173,7 @@ module _ {B C P G : Type 0} (m : Setup B C P G) (nest : Nest) (what : B × ℕ �
       caused = λ claims size held. trap_caused m nest what start noted setup i.first s.next s.epochs i.chain i.known s.mark s.words i.marked s.seats s.distance s.passed s.trap trace i.width (i.sound at.working.calm) claims size held now.more s.facts.segments now.segment i.within k cause line ok.2.of_task.0 (left_trapped m.system (family k) (part k trace) at.piece cause line ok.2.left at.stops);
     });
     over = λ over. absurd (true≢false (sym over ∙ at.working.going));
-  }
+  })
     where
       this : Task
       this = record { epoch = done_at s.seats u; worker = u }
@@ -180,24 +193,14 @@ module _ {B C P G : Type 0} (m : Setup B C P G) (nest : Nest) (what : B × ℕ �
 
   -- a running worker lets go
   pub let_go_row : (u : ℕ) → u < m.width → s.concluded ≡ false → IsSome s.abort → Kept (state_after m s u DoLetGo) trace
-  let_go_row u own going some = record {
-    first = i.first;
+  let_go_row u own going some = others_kept _ _ _ _ _ _ _ _ refl (record {
     width = length-set s.seats u rests ∙ i.width;
-    marked = i.marked;
-    chain = i.chain;
-    known = i.known;
-    course = i.course;
-    early = i.early;
-    segments = record { committed = i.segments.committed; are = i.segments.are; counts = i.segments.counts; whole = i.segments.whole };
-    room = i.room;
-    filled = i.filled;
     either = i.either;
     strict = i.strict;
-    within = i.within;
     sound = λ calm. absurd (true≢false (sym (subst IsSome calm some)));
     aborted = λ cause is. let old = i.aborted cause is in record { given = old.given; tells = tells cause old.tells; caused = old.caused };
     over = λ over. absurd (true≢false (sym over ∙ going));
-  }
+  })
     where
       rests : Seat P G
       rests = record (seat_at s.seats u) { hand = Idle }
