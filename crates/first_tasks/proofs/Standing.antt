@@ -18,7 +18,8 @@ use Rattle.nest_syntax.specs.Value.{scalar_at}
 use Rattle.nest_syntax.specs.Turn.{Turn, Finished, Load, Reckoning, reckoning, done_with, inside, writing, operation_turn}
 use Rattle.nest_syntax.specs.FirstForm.{is_allowed, is_arithmetic, operators}
 use Rattle.nest_syntax.proofs.Equations.{reckoning-number, reckoning-scalar, reckoning-word, reckoning-binary}
-use Rattle.addr_slice.proofs.Nodes.{expr_induction, allowed-unary, allowed-binary, allowed-word, allowed-choice}
+use Rattle.nest_syntax.proofs.Inductions.{expr_induction}
+use Rattle.addr_slice.proofs.Nodes.{allowed-unary, allowed-binary, allowed-word, allowed-choice}
 use Rattle.addr_slice.proofs.Sound.{turn-arithmetic}
 use Rattle.settle_law.specs.Cuts.{Cut, cut}
 use Rattle.settle_law.specs.Cuts as cuts

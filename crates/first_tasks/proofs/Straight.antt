@@ -14,7 +14,8 @@ use Rattle.nest_syntax.specs.Arrays.{Array, sizes_of, located, place_of, word_nu
 use Rattle.nest_syntax.specs.Turn.{Turn, Finished, Load, Op, Reckoning, reckoning, done_with, inside, writing}
 use Rattle.nest_syntax.specs.FirstForm.{First, IsKept, is_allowed, is_arithmetic, operators, node_operators}
 use Rattle.nest_syntax.proofs.Equations.{reckoning-number, reckoning-scalar, reckoning-word, reckoning-binary}
-use Rattle.addr_slice.proofs.Nodes.{expr_induction, allowed-unary, allowed-binary, allowed-word, allowed-choice}
+use Rattle.nest_syntax.proofs.Inductions.{expr_induction}
+use Rattle.addr_slice.proofs.Nodes.{allowed-unary, allowed-binary, allowed-word, allowed-choice}
 use Rattle.addr_slice.proofs.Sound.{arithmetic, turn-arithmetic}
 use Rattle.settle_law.specs.Cuts.{Cut, cut, pausing, is_full, one_more}
 use Rattle.settle_law.specs.Cuts as cuts

@@ -15,7 +15,7 @@ use crate::piece::Piece;
 use crate::position::Iteration;
 use crate::reckoned::Reckoned;
 use crate::stop::Stop;
-use addr_slice::{Claims, claims};
+use addr_slice::{Claims, first_claims};
 use nest_syntax::{Cause, Expr, Line, Program};
 
 /// The stop at which a piece of work of a program of the first form stands. It is found by walking the program's write on
@@ -43,7 +43,7 @@ pub fn claim_words(program: &Program, iteration: Iteration, into: &mut Claims)
     let frame = frame_of(program, iteration);
     let outer = frame.scalar(frame.outer);
     let inner = frame.scalar(frame.inner);
-    claims(program, outer, inner, into);
+    first_claims(program, outer, inner, into);
 }
 
 fn frame_of(program: &Program, iteration: Iteration) -> Frame

@@ -1,8 +1,8 @@
 //! Copies of a program's tree.
 ghost use Rattle.std.specs.Prelude.{◌≡◌, IfOk};
 
-use nest_syntax::{Arm, Decl, Expr, Loop, Name, NoMemory, Program, Stmt};
-use sqlite_items::{Boxed, Items};
+use nest_syntax::{Arm, Decl, Loop, Name, NoMemory, Program, Stmt};
+use sqlite_items::Items;
 use std::alloc::Global;
 
 /// An equal program.
@@ -69,34 +69,6 @@ fn copy_regions(alloc: Global, regions: &[Loop]) -> Result<Items<Loop>, NoMemory
     Ok(copied)
 }
 
-fn copy_expr(alloc: Global, expr: &Expr) -> Result<Expr, NoMemory>
-    ensures { IfOk result (λ copied. copied ≡ expr.now) }
-{
-    match expr {
-        Expr::Number(number) => Ok(Expr::Number(*number)),
-        Expr::Scalar(name) => Ok(Expr::Scalar(*name)),
-        Expr::Word(array, place) => Ok(Expr::Word(
-            *array,
-            Boxed::new(alloc, copy_expr(alloc, place.get())?)?,
-        )),
-        Expr::Unary(op, part) => Ok(Expr::Unary(
-            *op,
-            Boxed::new(alloc, copy_expr(alloc, part.get())?)?,
-        )),
-        Expr::Binary(op, left, right) => {
-            let left = Boxed::new(alloc, copy_expr(alloc, left.get())?)?;
-            let right = Boxed::new(alloc, copy_expr(alloc, right.get())?)?;
-            Ok(Expr::Binary(*op, left, right))
-        }
-        Expr::Choice(test, first, second) => {
-            let test = Boxed::new(alloc, copy_expr(alloc, test.get())?)?;
-            let first = Boxed::new(alloc, copy_expr(alloc, first.get())?)?;
-            let second = Boxed::new(alloc, copy_expr(alloc, second.get())?)?;
-            Ok(Expr::Choice(test, first, second))
-        }
-    }
-}
-
 #[cycle(copy)]
 fn copy_block(alloc: Global, stmts: &[Stmt]) -> Result<Items<Stmt>, NoMemory>
     ensures { IfOk result (λ copied. copied ≡ stmts.now) }
@@ -116,7 +88,7 @@ fn copy_stmt(alloc: Global, stmt: &Stmt) -> Result<Stmt, NoMemory>
         Stmt::Declare { line, name, value } => Ok(Stmt::Declare {
             line: *line,
             name: *name,
-            value: copy_expr(alloc, value)?,
+            value: value.copy(alloc)?,
         }),
         Stmt::Assign {
             line,
@@ -127,7 +99,7 @@ fn copy_stmt(alloc: Global, stmt: &Stmt) -> Result<Stmt, NoMemory>
             line: *line,
             name: *name,
             op: *op,
-            value: copy_expr(alloc, value)?,
+            value: value.copy(alloc)?,
         }),
         Stmt::Write {
             line,
@@ -138,9 +110,9 @@ fn copy_stmt(alloc: Global, stmt: &Stmt) -> Result<Stmt, NoMemory>
         } => Ok(Stmt::Write {
             line: *line,
             array: *array,
-            place: copy_expr(alloc, place)?,
+            place: place.copy(alloc)?,
             op: *op,
-            value: copy_expr(alloc, value)?,
+            value: value.copy(alloc)?,
         }),
         Stmt::If { arms, other } => Ok(Stmt::If {
             arms: copy_arms(alloc, arms.as_slice())?,
@@ -167,7 +139,7 @@ fn copy_arm(alloc: Global, arm: &Arm) -> Result<Arm, NoMemory>
 {
     Ok(Arm {
         line: arm.line,
-        test: copy_expr(alloc, &arm.test)?,
+        test: arm.test.copy(alloc)?,
         body: copy_block(alloc, arm.body.as_slice())?,
     })
 }
@@ -179,8 +151,8 @@ fn copy_loop(alloc: Global, inner: &Loop) -> Result<Loop, NoMemory>
     Ok(Loop {
         line: inner.line,
         name: inner.name,
-        low: copy_expr(alloc, &inner.low)?,
-        high: copy_expr(alloc, &inner.high)?,
+        low: inner.low.copy(alloc)?,
+        high: inner.high.copy(alloc)?,
         through: inner.through,
         step: inner.step,
         body: copy_block(alloc, inner.body.as_slice())?,

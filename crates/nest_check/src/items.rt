@@ -15,7 +15,8 @@ use std::alloc::Global;
 
 const MOST_ITEMS: u32 = 64;
 
-const MOST_SCALARS: usize = 32;
+/// How many scheduler scalars a program may have.
+pub(crate) const MOST_SCALARS: usize = 32;
 
 /// What the items of regions gave so far: the room left in this region, the scheduler scalars declared, and the lowest
 /// lines of bodies and of regions that are too large.

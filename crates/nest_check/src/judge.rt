@@ -9,14 +9,12 @@ ghost use Rattle.nest_check.specs.Broken.{IsBroken};
 use crate::arrays::{lowest_beyond_64, lowest_wrong_length};
 use crate::changed_bounds::lowest_changed_bound;
 use crate::first_names::FirstNames;
-use crate::items::sizes_of;
+use crate::items::{MOST_SCALARS, sizes_of};
 use crate::parts::part_breaches;
 use data_local::lowest_data_bound;
 use nest_scope::scope_breaches;
 use nest_syntax::{Line, Lowest, NoMemory, Program};
 use std::alloc::Global;
-
-const MOST_SCALARS: usize = 32;
 
 /// The lowest rule that a program breaks with the lowest line that breaks it, and its scheduler scalars up to the 33rd.
 #[derive(Debug, Drop)]

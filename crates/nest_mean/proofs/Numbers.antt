@@ -100,5 +100,13 @@ body_is program regions n body same found = stands_at (bodies_of program) n body
 pub too_many : (program : Program) (regions : List Loop) (n left : ℕ) → regions ≡ program.regions → at_number (flat_map bodies_in_region regions) n ≡ Err left → length (bodies_of program) ≤ n
 too_many program regions n left same passed = passes_all (bodies_of program) n left (ap (λ bs. at_number bs n) (program_bodies program) ∙ ap (λ rs. at_number (flat_map bodies_in_region rs) n) (sym same) ∙ passed)
 
+none_behind : (bodies : List (List Stmt)) (n : ℕ) → length bodies ≤ n → body_at bodies n ≡ []
+none_behind [] n over = refl
+none_behind (b ∷ bodies) zero over = absurd (omega (arith, over))
+none_behind (b ∷ bodies) (suc n) over = none_behind bodies n (omega (arith, over))
+
+pub body_is_none : (program : Program) (n : ℕ) → length (bodies_of program) ≤ n → body_at (bodies_of program) n ≡ []
+body_is_none program n over = none_behind (bodies_of program) n over
+
 pub is_there : (program : Program) (regions : List Loop) (n : ℕ) (body : List Stmt) → regions ≡ program.regions → at_number (flat_map bodies_in_region regions) n ≡ Ok body → n < length (bodies_of program)
 is_there program regions n body same found = stands_within (bodies_of program) n body (ap (λ bs. at_number bs n) (program_bodies program) ∙ ap (λ rs. at_number (flat_map bodies_in_region rs) n) (sym same) ∙ found)

@@ -65,6 +65,22 @@ pub fn has_body(checked: &Checked, body: u32) -> bool
     }
 }
 
+/// The statements of the body with this number; where there is no such body, none.
+pub fn body_of(checked: &Checked, body: u32) -> &[Stmt]
+    ensures { result.now ≡ body_at (bodies_of checked.now) body }
+{
+    match body_in_regions(checked.program().regions.as_slice(), body) {
+        Ok(stmts) => stmts,
+        Err(_) => no_statements(),
+    }
+}
+
+fn no_statements<'a>() -> &'a [Stmt]
+    ensures { result.now ≡ [] }
+{
+    &[]
+}
+
 /// Runs one iteration of a body, as `run_turn` does; a list of its locals spares a walk over its text.
 pub(crate) fn run_body(
     body: &[Stmt],
@@ -298,7 +314,7 @@ fn value_of(
 
 // How often a loop turns. A step of 0, which no checked program has, has the count that the definition gives it: no turn
 // below the high bound, and one through it.
-pub(crate) fn turns_of(low: i64, high: i64, step: u64, through: bool) -> Result<u64, Cause>
+pub fn turns_of(low: i64, high: i64, step: u64, through: bool) -> Result<u64, Cause>
     ensures count { result ≡ counted (turns low high step through) }
     ensures reach { IfOk result (λ n. (k : ℕ) → k < n → FitsSigned w64 (variable low step k)) }
 {

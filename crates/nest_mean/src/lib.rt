@@ -19,11 +19,12 @@ mod run_scalars;
 mod saved;
 mod values;
 
-pub use bodies::{TurnTrap, has_body, run_turn};
+pub use bodies::{TurnTrap, body_of, has_body, run_turn, turns_of};
 pub use expressions::eval;
 pub use jobs::Job;
 pub use laws::few_iterations;
 pub use nest_syntax::Place;
 pub use outcomes::Outcome;
 pub use plain::run_plain;
+pub use saved::clear_locals;
 pub use values::Scalars;

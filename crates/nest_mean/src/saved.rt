@@ -93,7 +93,7 @@ pub(crate) fn put_back(
 }
 
 /// Gives each local of a body 0, by a list of the locals where there is one.
-pub(crate) fn clear_locals(body: &[Stmt], locals: Option<&[u32]>, scalars: &mut Scalars)
+pub fn clear_locals(body: &[Stmt], locals: Option<&[u32]>, scalars: &mut Scalars)
     requires { IfSome locals (λ list. (name : ℕ) → is_among list.now name ≡ is_among (locals_of body.now) name) }
     ensures { scalars.new ≡ with_zeros (locals_of body.now) scalars.old }
 {

@@ -1,9 +1,9 @@
-ghost use Rattle.std.specs.Prelude.{◌≡◌, ◌↔◌, IsTrue, IfOk, [], slice_index_or};
+ghost use Rattle.std.specs.Prelude.{◌≡◌, ◌↔◌, IsTrue, IfOk, [], slice_index_or, not, ◌||◌};
 ghost use Rattle.std.specs.List.{list_any};
 ghost use Rattle.nest_syntax.specs.declared.tree.Program.{Program};
 ghost use Rattle.nest_syntax.specs.Arrays.{arrays_of};
 ghost use Rattle.nest_syntax.specs.Shape.{bodies_of};
-ghost use Rattle.nest_syntax.specs.Value.{names_written};
+ghost use Rattle.nest_syntax.specs.Value.{names_written, is_written};
 ghost use Rattle.nest_syntax.specs.Among.{is_among};
 ghost use Rattle.data_local.specs.Names.{scalars_in};
 ghost use Rattle.data_local.specs.DataLocals.{IsDataLocal};
@@ -55,7 +55,8 @@ fn copies(alloc: Global, lists: &[DataLocals]) -> Result<Vec<DataLocals>, NoMemo
 impl Split {
     /// Whether a name is a data local of the body: one whose values may depend on written arrays.
     pub fn is_data(&self, body: u32, name: u32) -> bool
-        ensures { (program : Program) → IsSplitOf program self.now → IsTrue result ↔ IsDataLocal (arrays_of program.decls) (body_numbered (bodies_of program) body) name }
+        ensures among { result ≡ is_among (slice_index_or self.now.locals body []) name }
+        ensures local { (program : Program) → IsSplitOf program self.now → IsTrue result ↔ IsDataLocal (arrays_of program.decls) (body_numbered (bodies_of program) body) name }
     {
         match self.locals.get(body as usize) {
             Some(found) => found.has(name),
@@ -65,7 +66,8 @@ impl Split {
 
     /// Whether an expression of the body is a slice expression: it names no written array and no data local.
     pub fn is_slice(&self, body: u32, expr: &Expr) -> bool
-        ensures { (program : Program) → IsSplitOf program self.now → IsTrue result ↔ IsSlice (arrays_of program.decls) (body_numbered (bodies_of program) body) expr.now }
+        ensures slice { (program : Program) → IsSplitOf program self.now → IsTrue result ↔ IsSlice (arrays_of program.decls) (body_numbered (bodies_of program) body) expr.now }
+        ensures named { (program : Program) → IsSplitOf program self.now → result ≡ not (names_written (arrays_of program.decls) expr.now || list_any (is_among (slice_index_or self.now.locals body [])) (scalars_in expr.now)) }
     {
         !self.drains(expr) && !self.names_local(body, expr)
     }
@@ -78,6 +80,13 @@ impl Split {
             Some(found) => found.are_named_in(expr),
             None => false,
         }
+    }
+
+    /// Whether a name is that of a written array.
+    pub fn is_written(&self, name: u32) -> bool
+        ensures { (program : Program) → IsSplitOf program self.now → result ≡ is_written (arrays_of program.decls) name }
+    {
+        self.written.has(name)
     }
 
     /// Whether an expression of the scheduler is a drain point: it names a written array.

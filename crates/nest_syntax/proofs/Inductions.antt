@@ -1,8 +1,12 @@
--- Induction over statements, one case for each kind of them.
-use Rattle.std.proofs.Common.{◌≡◌, ℕ, List, [], ◌∷◌, ◌++◌, map, sym, subst}
+-- Induction over expressions and over statements, one case for each kind of them.
+use Rattle.std.proofs.Common.{◌≡◌, ℕ, ℤ, List, [], ◌∷◌, ◌++◌, map, sym, subst}
 use Rattle.nest_syntax.specs.declared.names.Line.{Line}
 use Rattle.nest_syntax.specs.declared.operators.Op.{Op}
-use Rattle.nest_syntax.specs.declared.tree.Expr.{Expr}
+use Rattle.nest_syntax.specs.declared.operators.Bin.{Bin}
+use Rattle.nest_syntax.specs.declared.operators.Un.{Un}
+use Rattle.nest_syntax.specs.declared.tree.Expr.{Expr, Expr-F, roll-Expr, map-Expr, ind-Expr}
+use Rattle.nest_syntax.specs.declared.tree.Expr.TheVariants as expr
+use Rattle.nest_syntax.specs.declared.tree.Expr.TheVariants.{rolls-Number, rolls-Scalar, rolls-Word, rolls-Unary, rolls-Binary, rolls-Choice}
 use Rattle.nest_syntax.specs.declared.tree.Arm.{Arm, roll-Arm}
 use Rattle.nest_syntax.specs.declared.tree.Loop.{Loop, roll-Loop}
 use Rattle.nest_syntax.specs.declared.tree.Stmt.{Stmt, roll-Stmt}
@@ -11,6 +15,27 @@ use Rattle.nest_syntax.specs.declared.tree.Stmt.TheFolds.{map-Stmt, map-Arm, map
 use Rattle.nest_syntax.specs.declared.tree.Stmt.TheVariants as stmt
 use Rattle.nest_syntax.specs.declared.tree.Stmt.TheVariants.{rolls-Declare, rolls-Assign, rolls-Write, rolls-If, rolls-Loop}
 use Rattle.nest_syntax.specs.Among.{Each}
+
+module _ (P : Expr → Type 0)
+    (at_number : (n : ℤ) → P (expr.Number n))
+    (at_scalar : (name : ℕ) → P (expr.Scalar name))
+    (at_word : (name : ℕ) (place : Expr) → P place → P (expr.Word name place))
+    (at_unary : (o : Un) (a : Expr) → P a → P (expr.Unary o a))
+    (at_binary : (o : Bin) (a b : Expr) → P a → P b → P (expr.Binary o a b))
+    (at_choice : (t a b : Expr) → P t → P a → P b → P (expr.Choice t a b)) where
+  abbrev Such : Type 0
+  Such = (e : Expr) × P e
+
+  expr_layer : (y : Expr-F Such) → P (roll-Expr (map-Expr Such Expr (λ e. e.0) y))
+  expr_layer (Expr-F.Number n) = subst P (sym (rolls-Number n)) (at_number n)
+  expr_layer (Expr-F.Scalar name) = subst P (sym (rolls-Scalar name)) (at_scalar name)
+  expr_layer (Expr-F.Word name place) = subst P (sym (rolls-Word name place.0)) (at_word name place.0 place.1)
+  expr_layer (Expr-F.Unary o a) = subst P (sym (rolls-Unary o a.0)) (at_unary o a.0 a.1)
+  expr_layer (Expr-F.Binary o a b) = subst P (sym (rolls-Binary o a.0 b.0)) (at_binary o a.0 b.0 a.1 b.1)
+  expr_layer (Expr-F.Choice t a b) = subst P (sym (rolls-Choice t.0 a.0 b.0)) (at_choice t.0 a.0 b.0 t.1 a.1 b.1)
+
+  pub expr_induction : (e : Expr) → P e
+  expr_induction = ind-Expr P (λ x y is. subst (λ d. P (roll-Expr d)) is (expr_layer y))
 
 module _ (P : Stmt → Type 0)
     (at_declare : (line : Line) (name : ℕ) (e : Expr) → P (stmt.Declare line name e))

@@ -116,10 +116,25 @@ impl Words {
         }
     }
 
+    /// The number of the word at a subscript of an array, from 0 over all arrays. None comes exactly where the subscript is
+    /// outside the array.
+    pub fn number_of(&self, array: u32, place: i64) -> Option<u32>
+        requires { array < length self.now.sizes }
+        ensures number { result ≡ number_at self.now.sizes array place }
+        ensures within { IfSome result (λ n. n < sum self.now.sizes) }
+    {
+        match self.number_at(array, place) {
+            Some(number) => Some(number as u32),
+            None => None,
+        }
+    }
+
     fn number_at(&self, array: u32, place: i64) -> Option<usize>
         requires { array < length self.now.sizes }
         ensures number { result ≡ number_at self.now.sizes array place }
         ensures inside { IfSome result (λ n. n < length self.now.words) }
+        ensures within { IfSome result (λ n. n < sum self.now.sizes) }
+        ensures few { IfSome result (λ n. n < most_words) }
     {
         let place = place_in(self.sizes[array as usize], place)?;
         Some(self.starts[array as usize] + place as usize)

@@ -16,8 +16,8 @@ use Rattle.first_tasks.proofs.Forms.{form_with, first-of_form}
 use Rattle.first_tasks.proofs.Pieces.{frame-scalars}
 use Rattle.first_tasks.proofs.stops.claim_words.Goals as goal
 
-pub claims-requires-clause-room : goal.claims-requires-clause-room
-claims-requires-clause-room c = subst (λ decls. sum (sizes_of (arrays_of decls)) ≤ words_of c.args.into.now) (sym (form_with c.args.program.now c.requires.form).1) (omega arith)
+pub first_claims-requires-clause-room : goal.first_claims-requires-clause-room
+first_claims-requires-clause-room c = subst (λ decls. sum (sizes_of (arrays_of decls)) ≤ words_of c.args.into.now) (sym (form_with c.args.program.now c.requires.form).1) (omega arith)
 
 pub returns : goal.returns
 unfolding claims_in
@@ -31,7 +31,7 @@ returns c =
     let outer : c.scalar-outer.result ≡ scalar_at scalars first.outer.name = c.scalar-outer.ensures ∙ ap (λ (f : Frame). scalar_at (scalars_of f) f.outer) c.frame_of-frame.ensures ∙ ap (λ s. scalar_at s first.outer.name) (sym same) in
     let inner : c.scalar-inner.result ≡ scalar_at scalars first.inner.name = c.scalar-inner.ensures ∙ ap (λ (f : Frame). scalar_at (scalars_of f) f.inner) c.frame_of-frame.ensures ∙ ap (λ s. scalar_at s first.inner.name) (sym same) in
     let claims = λ (f : First) (x y : ℤ). with_claims (no_claims (words_of c.args.into.now)) (claims_of f x y).claims in
-    c.claims.ensures.claims c.requires.form
+    c.first_claims.ensures.claims c.requires.form
     ∙ ap (λ (f : First). claims f (to_z w64 (of_z w64 c.scalar-outer.result)) (to_z w64 (of_z w64 c.scalar-inner.result))) (sym (first-of_form program c.requires.form))
     ∙ ap (λ x. claims first x (to_z w64 (of_z w64 c.scalar-inner.result))) (to_z-of_z w64 c.scalar-outer.result outer_fits ∙ outer)
     ∙ ap (λ y. claims first (scalar_at scalars first.outer.name) y) (to_z-of_z w64 c.scalar-inner.result inner_fits ∙ inner)
