@@ -3,16 +3,14 @@ use Rattle.std.proofs.Common.{◌≡◌, ℕ, ◌+◌, ◌-◌, ◌*◌, ◌/◌
 use Rattle.std.proofs.lemmas.Bool.{lt-ltb, ltb-true, ltb-false, cases_lt, cases_eq}
 use Rattle.std.proofs.lemmas.List.{get_or_past, get_or-set_same, get_or-set_other, get_or-replicate, length-replicate, length-set}
 use Rattle.addr_slice.specs.Claims.{IsNext, is_set, AreEven}
-use Rattle.addr_slice.specs.WordSet.{has_bit, in_rows, flags_of, IsFilled}
+use Rattle.addr_slice.specs.WordSet.{has_bit, in_rows, flags_of, Puts, IsFilled}
 use Rattle.addr_slice.proofs.Rows.{in_rows-of, has_bit-zero, next_in_rows-skipped}
-use Rattle.addr_slice.proofs.Sets.{Puts, length-flags_of, flag-inside, in_rows-empty}
+use Rattle.addr_slice.proofs.Sets.{flag_in_rows, in_rows-empty}
 
 module _ (count : ℕ) (rows : List ℕ) (filled : List Bool) (kept : IsFilled count rows filled) where
   -- a flag is set where the number is in the rows
   pub filled_flag-is : (flags : List Bool) → flags_of count rows ≡ flags → (k : ℕ) → is_set flags k ≡ in_rows rows k
-  filled_flag-is flags e k =
-      ap (λ f. is_set f k) (sym e) ∙ ⊎_elim (flag-inside count rows k)
-      (λ behind. get_or_past (flags_of count rows) k false (omega (arith, length-flags_of count rows)) ∙ sym (kept.none_behind k behind)) (cases_lt k count)
+  filled_flag-is = flag_in_rows count rows kept.none_behind
 
   -- a row that isn't named has no number
   unfilled_row : (k : ℕ) → is_set filled (k / 64) ≡ false → in_rows rows k ≡ false

@@ -50,11 +50,11 @@ is_there : (claims : Claimed) (n : ℕ) (w : Bool) → IsEven claims → n < wor
 is_there claims n true even h = get_or-set_same claims.writes n true false (omega arith)
 is_there claims n false even h = get_or-set_same claims.reads n true false h
 
-even_still : (claims : Claimed) (n : ℕ) (w : Bool) → IsEven claims → IsEven (with_claim claims n w)
+pub even_still : (claims : Claimed) (n : ℕ) (w : Bool) → IsEven claims → IsEven (with_claim claims n w)
 even_still claims n true even = length-set claims.writes n true ∙ even
 even_still claims n false even = even ∙ sym (length-set claims.reads n true)
 
-as_many : (claims : Claimed) (n : ℕ) (w : Bool) → words_of (with_claim claims n w) ≡ words_of claims
+pub as_many : (claims : Claimed) (n : ℕ) (w : Bool) → words_of (with_claim claims n w) ≡ words_of claims
 as_many claims n true = refl
 as_many claims n false = length-set claims.reads n true
 

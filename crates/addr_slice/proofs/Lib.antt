@@ -1,6 +1,7 @@
 pub mod Rows
 pub mod Sets
 pub mod Filled
+pub mod Spanned
 pub mod Nodes
 pub mod Walks
 pub mod Parts
@@ -10,3 +11,9 @@ pub mod Sound
 pub mod Bodies
 pub mod Turns
 pub mod Clashes
+pub mod Meeting
+pub mod Walking
+pub mod Arms
+pub mod Flags
+pub mod Claiming
+pub mod Slicing

@@ -8,7 +8,8 @@ use Rattle.nest_syntax.specs.Arrays.{Array, sizes_of, located, place_in, place_o
 use Rattle.nest_syntax.specs.Value.{value}
 use Rattle.nest_syntax.specs.FirstForm.{is_allowed, is_arithmetic}
 use Rattle.addr_slice.specs.Walk.{Walk, trap, claim, touched, and_then_walk, walk, walk_of_write}
-use Rattle.addr_slice.proofs.Nodes.{expr_induction, allowed-unary, allowed-binary, allowed-choice}
+use Rattle.nest_syntax.proofs.Inductions.{expr_induction}
+use Rattle.addr_slice.proofs.Nodes.{allowed-unary, allowed-binary, allowed-choice}
 use Rattle.addr_slice.proofs.Walks.{walk-number, walk-scalar, walk-word, walk-binary, and_then_walk-trapped, and_then_walk-went_on}
 use Rattle.addr_slice.proofs.Held.{Each, Each-append}
 

@@ -1,10 +1,10 @@
 -- The flags of a set against its rows.
-use Rattle.std.proofs.Common.{◌≡◌, ◌≢◌, ℕ, ◌+◌, ◌-◌, ◌*◌, ◌/◌, ◌%◌, ◌<◌, ◌≤◌, Bool, true, false, Option, Some, None, List, length, get_or, set, replicate, nat_lt, ⊎_elim, refl, ap, sym, ◌∙◌, arith}
+use Rattle.std.proofs.Common.{◌≡◌, ℕ, ◌+◌, ◌-◌, ◌*◌, ◌/◌, ◌%◌, ◌<◌, ◌≤◌, Bool, true, false, Option, Some, None, List, length, get_or, set, replicate, nat_lt, ⊎_elim, refl, ap, sym, ◌∙◌, arith}
 use Rattle.std.proofs.lemmas.Bool.{lt-ltb, ltb-true, ltb-false, cases_lt, cases_eq, true≢false}
 use Rattle.std.proofs.lemmas.List.{get_or_past, get_or-set_same, get_or-set_other, get_or-replicate, length-replicate, length-set, ext_get_or}
 use Rattle.std.proofs.lemmas.List.FromFn.{length-map-range_with_len, get_or-map-range_with_len}
 use Rattle.addr_slice.specs.Claims.{IsNext, is_set}
-use Rattle.addr_slice.specs.WordSet.{has_bit, in_rows, flags_of, IsSummed}
+use Rattle.addr_slice.specs.WordSet.{has_bit, in_rows, flags_of, Puts, IsSummed}
 use Rattle.addr_slice.proofs.Rows.{in_rows-of, has_bit-zero, next_in_rows-skipped}
 
 -- the same answer for a test that says the same
@@ -19,10 +19,13 @@ pub flag-inside : (count : ℕ) (rows : List ℕ) (k : ℕ) → k < count → is
 flag-inside count rows k h = get_or-map-range_with_len (in_rows rows) 0 count k k false h (omega arith)
 
 -- a flag is set where the number is in the rows
-pub flag-is : (count : ℕ) (rows summary : List ℕ) (flags : List Bool) → IsSummed count rows summary → flags_of count rows ≡ flags → (k : ℕ) → is_set flags k ≡ in_rows rows k
-flag-is count rows summary flags kept e k =
+pub flag_in_rows : (count : ℕ) (rows : List ℕ) → ((n : ℕ) → count ≤ n → in_rows rows n ≡ false) → (flags : List Bool) → flags_of count rows ≡ flags → (k : ℕ) → is_set flags k ≡ in_rows rows k
+flag_in_rows count rows none_behind flags e k =
     ap (λ f. is_set f k) (sym e) ∙ ⊎_elim (flag-inside count rows k)
-    (λ behind. get_or_past (flags_of count rows) k false (omega (arith, length-flags_of count rows)) ∙ sym (kept.none_behind k behind)) (cases_lt k count)
+    (λ behind. get_or_past (flags_of count rows) k false (omega (arith, length-flags_of count rows)) ∙ sym (none_behind k behind)) (cases_lt k count)
+
+pub flag-is : (count : ℕ) (rows summary : List ℕ) (flags : List Bool) → IsSummed count rows summary → flags_of count rows ≡ flags → (k : ℕ) → is_set flags k ≡ in_rows rows k
+flag-is count rows summary flags kept = flag_in_rows count rows kept.none_behind flags
 
 -- a row that the summary doesn't name has no number
 empty_row : (count : ℕ) (rows summary : List ℕ) → IsSummed count rows summary → (k : ℕ) → in_rows summary (k / 64) ≡ false → in_rows rows k ≡ false
@@ -58,14 +61,6 @@ next-in_later count rows summary from row bit kept here behind within least = (
       (cases_lt k (row * 64)))
       (cases_lt k ((from / 64 + 1) * 64)),
 )
-
--- what it is to put a number into rows
-pub record Puts (rows after : List ℕ) (number : ℕ) : Type 0 where
-  pub some : 0 < get_or after (number / 64) 0
-  pub other_rows : (row : ℕ) → row ≢ number / 64 → get_or after row 0 ≡ get_or rows row 0
-  pub set_there : in_rows after number ≡ true
-  pub others : (k : ℕ) → k ≢ number → in_rows after k ≡ in_rows rows k
-  pub as_many : length after ≡ length rows
 
 pub IsSummed-put : (count : ℕ) (rows summary after summary_after : List ℕ) (number : ℕ) → number < count → IsSummed count rows summary → Puts rows after number → Puts summary summary_after (number / 64)
     → IsSummed count after summary_after

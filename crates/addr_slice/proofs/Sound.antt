@@ -18,7 +18,8 @@ use Rattle.nest_syntax.proofs.Equations.{value-number, value-scalar, value-binar
 use Rattle.addr_slice.specs.Walk.{Walk, trap, claim, touched, and_then_walk, walk, walk_of_write, scalars_with}
 use Rattle.settle_law.specs.Reading.{WithinTurn}
 use Rattle.addr_slice.specs.Claims.{Claimed, has, by_word}
-use Rattle.addr_slice.proofs.Nodes.{expr_induction, allowed-scalar, allowed-word, allowed-unary, allowed-binary, allowed-choice}
+use Rattle.nest_syntax.proofs.Inductions.{expr_induction}
+use Rattle.addr_slice.proofs.Nodes.{allowed-scalar, allowed-word, allowed-unary, allowed-binary, allowed-choice}
 use Rattle.addr_slice.proofs.Walks.{walk-number, walk-scalar, walk-word, walk-binary, and_then_walk-trapped, and_then_walk-went_on}
 use Rattle.addr_slice.proofs.Room.{one_array}
 use Rattle.addr_slice.proofs.Held.{AllClaimed, Each-first, Each-second}

@@ -1,6 +1,6 @@
 -- Claims: which words an iteration may read and which it may write. Words are numbered from 0 over all arrays of a
 -- program, in order of declaration.
-use Rattle.std.specs.Prelude.{◌≡◌, ℕ, zero, suc, ◌≤◌, ◌<◌, ◌↔◌, Bool, true, false, ◌&&◌, ◌||◌, IsTrue, Option, Some, None, List, [], ◌∷◌, length, replicate, slice_index_or, slice_set}
+use Rattle.std.specs.Prelude.{◌≡◌, ℕ, zero, suc, ◌+◌, ◌≤◌, ◌<◌, ◌↔◌, Bool, true, false, ◌&&◌, ◌||◌, IsTrue, Option, Some, None, List, [], ◌∷◌, length, replicate, slice_index_or, slice_set}
 use Rattle.settle_law.specs.Claims as law
 
 -- one claim: a word, and whether it is claimed for writing or for reading
@@ -38,6 +38,11 @@ no_claims words = record { reads = replicate words false; writes = replicate wor
 abbrev pub with_claim : Claimed → ℕ → Bool → Claimed
 with_claim claims word true = record { reads = claims.reads; writes = slice_set claims.writes word true }
 with_claim claims word false = record { reads = slice_set claims.reads word true; writes = claims.writes }
+
+-- the same claims and those of so many words from the first on
+abbrev pub with_stretch : Claimed → ℕ → ℕ → Bool → Claimed
+with_stretch claims first zero write = claims
+with_stretch claims first (suc n) write = with_claim (with_stretch claims first n write) (first + n) write
 
 -- the same claims and those of a list
 abbrev pub with_claims : Claimed → List Claim → Claimed

@@ -3,3 +3,5 @@ pub mod Walk
 pub mod Iteration
 pub mod Within
 pub mod WordSet
+pub mod Slice
+pub mod Met

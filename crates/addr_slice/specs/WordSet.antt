@@ -1,5 +1,5 @@
 -- Sets of numbers as bits: number n is bit `n % 64` of row `n / 64`.
-use Rattle.std.specs.Prelude.{◌≡◌, ℕ, ◌*◌, ◌/◌, ◌%◌, ◌≤◌, Bool, false, ◌==◌, nat_lt, List, length, map, slice_index}
+use Rattle.std.specs.Prelude.{◌≡◌, ◌≢◌, ℕ, ◌*◌, ◌/◌, ◌%◌, ◌<◌, ◌≤◌, ◌⊎◌, Bool, true, false, ◌==◌, nat_lt, List, length, map, slice_index}
 use Rattle.std.specs.Int.{bit_at}
 use Rattle.std.specs.List.{range_with_len}
 use Rattle.addr_slice.specs.Claims.{is_set}
@@ -15,6 +15,14 @@ in_rows rows n = has_bit (slice_index rows (n / 64)) (n % 64)
 -- a flag for each number below `count`
 abbrev pub flags_of : ℕ → List ℕ → List Bool
 flags_of count rows = map (in_rows rows) (range_with_len 0 count)
+
+-- what it is to put a number into rows
+pub record Puts (rows after : List ℕ) (number : ℕ) : Type 0 where
+  pub some : 0 < slice_index after (number / 64)
+  pub other_rows : (row : ℕ) → row ≢ number / 64 → slice_index after row ≡ slice_index rows row
+  pub set_there : in_rows after number ≡ true
+  pub others : (k : ℕ) → k ≢ number → in_rows after k ≡ in_rows rows k
+  pub as_many : length after ≡ length rows
 
 -- What holds of a set: there is a row for each number below `count`, no number from `count` on is in it, and the summary
 -- has a bit for each row, set exactly where the row isn't 0.
@@ -35,3 +43,17 @@ pub record IsFilled (count : ℕ) (rows : List ℕ) (filled : List Bool) : Type 
   pub as_many : length filled ≡ length rows
   pub none_behind : (n : ℕ) → count ≤ n → in_rows rows n ≡ false
   pub exact : (row : ℕ) → is_set filled row ≡ nat_lt 0 (slice_index rows row)
+
+-- the rows below the first and from the end on are 0
+abbrev pub AreEmptyOutside : List ℕ → ℕ → ℕ → Type 0
+AreEmptyOutside rows first end = (row : ℕ) → (row < first) ⊎ (end ≤ row) → slice_index rows row ≡ 0
+
+-- The same of a set of which only is kept where the rows that aren't 0 begin and end.
+pub record IsSpanned (count : ℕ) (rows : List ℕ) (first end : ℕ) : Type 0 where
+  pub few : count ≤ 1048576
+  pub few_rows : length rows ≤ 16384
+  pub a_row_each : count ≤ 64 * length rows
+  pub begins : first ≤ length rows
+  pub ends : end ≤ length rows
+  pub none_behind : (n : ℕ) → count ≤ n → in_rows rows n ≡ false
+  pub outside : AreEmptyOutside rows first end

@@ -1,6 +1,6 @@
 ghost use Rattle.std.specs.Prelude.{◌≡◌, ◌≢◌, ℕ, ◌+◌, ◌*◌, ◌/◌, ◌<◌, ◌≤◌, true, nat_lt, length, slice_index, IfSome};
 ghost use Rattle.addr_slice.specs.Claims.{IsNext};
-ghost use Rattle.addr_slice.specs.WordSet.{has_bit, in_rows};
+ghost use Rattle.addr_slice.specs.WordSet.{has_bit, in_rows, Puts};
 
 /// How many bits a row has.
 pub const ROW: usize = 64;
@@ -57,10 +57,7 @@ pub fn in_rows(rows: &[u64], number: usize) -> bool
 /// Puts a number into the rows.
 pub fn put_in_rows(rows: &mut [u64], number: usize)
     requires { number < 64 * length rows.old }
-    ensures some { 0 < slice_index rows.new (number / 64) }
-    ensures other_rows { (row : ℕ) → row ≢ number / 64 → slice_index rows.new row ≡ slice_index rows.old row }
-    ensures set { in_rows rows.new number ≡ true }
-    ensures others { (k : ℕ) → k ≢ number → in_rows rows.new k ≡ in_rows rows.old k }
+    ensures { Puts rows.old rows.new number }
 {
     let row = &mut rows[number / ROW];
     *row = with_bit(*row, number % ROW);

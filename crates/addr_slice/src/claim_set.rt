@@ -1,6 +1,6 @@
-ghost use Rattle.std.specs.Prelude.{◌≡◌, ◌<◌, ◌≤◌, ◌↔◌, IsTrue, IfOk, IfSome, sum};
+ghost use Rattle.std.specs.Prelude.{◌≡◌, ◌<◌, ◌≤◌, ◌+◌, ◌↔◌, IsTrue, IfOk, IfSome, sum};
 ghost use Rattle.word_store.specs.Memory.{most_words};
-ghost use Rattle.addr_slice.specs.Claims.{words_of, has, is_claimed, no_claims, with_claim, IsNext, Clash};
+ghost use Rattle.addr_slice.specs.Claims.{words_of, has, is_claimed, no_claims, with_claim, with_stretch, IsNext, Clash};
 
 use crate::deep_set::DeepSet;
 use nest_syntax::NoMemory;
@@ -85,6 +85,19 @@ impl Claims {
             self.reads.insert(word as usize);
         }
         self.either.insert(word as usize);
+    }
+
+    /// Claims so many words that there is room for, from the first on, for writing or for reading. Costs as much as there
+    /// are.
+    pub(crate) fn add_all(&mut self, first: u32, count: u32, write: bool)
+        requires inside { first + count ≤ words_of self.old }
+        requires few { words_of self.old ≤ most_words }
+        ensures claims { self.new ≡ with_stretch self.old first count write }
+        ensures room { words_of self.new ≡ words_of self.old }
+    {
+        for k in 0..count {
+            self.add(first + k, write);
+        }
     }
 
     /// Forgets all claims. Costs as much as there are.

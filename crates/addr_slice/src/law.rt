@@ -1,4 +1,5 @@
 ghost use Rattle.addr_slice.specs.Claims.{TestTellsClash};
+ghost use Rattle.addr_slice.specs.Slice.{ClaimsHold, ClaimsAreOfScope};
 ghost use Rattle.addr_slice.specs.Within.{ClaimsHoldTurns};
 
 /// A law: the claims of an iteration of a program of the first form hold its turn. Whatever words the iteration reads,
@@ -11,4 +12,16 @@ pub fn claims_hold_turns()
 /// writing.
 pub fn test_tells_clash()
     ensures { TestTellsClash }
+{}
+
+/// A law: of every program that keeps the rules the claims of an iteration hold its turn, whatever words and scalars it
+/// begins with: each word that it reads is claimed for reading, and each word that it writes for writing.
+pub fn claims_hold()
+    ensures { ClaimsHold }
+{}
+
+/// A law: of the scalars those in scope at the body settle what an iteration claims and costs, and of the words the `const`
+/// ones.
+pub fn claims_are_of_scope()
+    ensures { ClaimsAreOfScope }
 {}

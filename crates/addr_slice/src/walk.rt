@@ -16,11 +16,11 @@ use nest_syntax::{Bin, Decl, Expr, Loop, Program, Stmt};
 use sqlite_items::Items;
 use word_store::apply;
 
-/// Puts the claims of an iteration into `into` and nothing else: whatever was claimed there before is forgotten. `outer`
+/// Puts the claims of an iteration of the first form into `into` and nothing else: whatever was claimed there before is forgotten. `outer`
 /// and `inner` are the values of the region's variable and of the invocation's; the program is of the first form, and
 /// there is room for the words of its array. Takes no memory, and costs as much as the claims that were there and the
 /// operators of the statement.
-pub fn claims(program: &Program, outer: i64, inner: i64, into: &mut Claims)
+pub fn first_claims(program: &Program, outer: i64, inner: i64, into: &mut Claims)
     requires form { IsFirstForm program.now }
     requires room { sum (sizes_of (arrays_of program.now.decls)) ≤ words_of into.old }
     ensures room { words_of into.new ≡ words_of into.old }

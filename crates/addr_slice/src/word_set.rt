@@ -11,7 +11,7 @@ use std::marker::Model;
 /// A set of numbers below a count, as a flag for each. The summary has a bit for each row, set where the row isn't 0:
 /// with it an empty stretch is passed 4,096 numbers at a time.
 #[derive(Debug, Drop)]
-pub struct WordSet {
+pub(crate) struct WordSet {
     count: usize,
     rows: Vec<u64>,
     summary: Vec<u64>,
@@ -29,7 +29,7 @@ impl Model for WordSet {
 }
 
 impl WordSet {
-    pub fn empty(alloc: Global, count: usize) -> Result<WordSet, NoMemory>
+    pub(crate) fn empty(alloc: Global, count: usize) -> Result<WordSet, NoMemory>
         requires { count ≤ 1048576 }
         ensures { IfOk result (λ made. made ≡ replicate count false) }
     {
@@ -43,20 +43,13 @@ impl WordSet {
         })
     }
 
-    pub fn len(&self) -> usize
-        ensures len { result ≡ length self.now }
-        ensures few { length self.now ≤ 1048576 }
-    {
-        self.count
-    }
-
-    pub fn has(&self, number: usize) -> bool
+    pub(crate) fn has(&self, number: usize) -> bool
         ensures { result ≡ is_set self.now number }
     {
         number < self.count && in_rows(&self.rows, number)
     }
 
-    pub fn insert(&mut self, number: usize)
+    pub(crate) fn insert(&mut self, number: usize)
         requires { number < length self.old }
         ensures { self.new ≡ slice_set self.old number true }
     {
@@ -64,7 +57,7 @@ impl WordSet {
         put_in_rows(&mut self.summary, number / ROW);
     }
 
-    pub fn next_from(&self, from: usize) -> Option<usize>
+    pub(crate) fn next_from(&self, from: usize) -> Option<usize>
         ensures { IsNext (is_set self.now) from result }
     {
         let row = from / ROW;
@@ -78,7 +71,7 @@ impl WordSet {
         Some(row * ROW + least_bit(self.rows[row]))
     }
 
-    pub fn clear(&mut self)
+    pub(crate) fn clear(&mut self)
         ensures { self.new ≡ replicate (length self.old) false }
     {
         empty_rows(&mut self.rows, &self.summary);

@@ -41,11 +41,11 @@ set_apart (x ∷ xs) (suc name) (suc other) v apart = set_apart xs name other v 
 pub set_other : (xs : List ℤ) (name other : ℕ) (v : ℤ) → (other == name) ≡ false → scalar_at (with_scalar xs name v) other ≡ scalar_at xs other
 set_other xs name other v e = set_apart xs name other v (λ same. let no : true ≡ false = sym (eq-eqb other name same) ∙ e in absurd cc)
 
-module _ (set : Setting) (locals : List ℕ) where
+module _ (set : Setting) (hidden : ℕ → Bool) where
   -- each name that may be used where these names are bound, and is no data local, has the same value
   pub record Agree (bound : List ℕ) (xs ys : List ℤ) : Type 0 where
     pub as_many : length xs ≡ length ys
-    pub each : (name : ℕ) → set.is_data_local name ≡ false → is_seen set locals bound name ≡ true → scalar_at xs name ≡ scalar_at ys name
+    pub each : (name : ℕ) → set.is_data_local name ≡ false → is_seen set hidden bound name ≡ true → scalar_at xs name ≡ scalar_at ys name
 
   pub agree_refl : (bound : List ℕ) (xs : List ℤ) → Agree bound xs xs
   agree_refl bound xs = record { as_many = refl; each = λ name sliced seen. refl }
@@ -60,12 +60,12 @@ module _ (set : Setting) (locals : List ℕ) where
   abbrev pub Wider : List ℕ → List ℕ → Type 0
   Wider bound wide = (name : ℕ) → is_among bound name ≡ true → is_among wide name ≡ true
 
-  pub seen_wider : (bound wide : List ℕ) (name : ℕ) → Wider bound wide → is_seen set locals bound name ≡ true → is_seen set locals wide name ≡ true
+  pub seen_wider : (bound wide : List ℕ) (name : ℕ) → Wider bound wide → is_seen set hidden bound name ≡ true → is_seen set hidden wide name ≡ true
   seen_wider bound wide name wider seen = by (is_among bound name) refl seen
     where
-      by : (b : Bool) → is_among bound name ≡ b → (b || not (is_among locals name)) ≡ true → (is_among wide name || not (is_among locals name)) ≡ true
-      by true is e = or_left (is_among wide name) (not (is_among locals name)) (wider name is)
-      by false is e = or_right (is_among wide name) (not (is_among locals name)) e
+      by : (b : Bool) → is_among bound name ≡ b → (b || not (hidden name)) ≡ true → (is_among wide name || not (hidden name)) ≡ true
+      by true is e = or_left (is_among wide name) (not (hidden name)) (wider name is)
+      by false is e = or_right (is_among wide name) (not (hidden name)) e
 
   pub agree_narrower : (bound wide : List ℕ) (xs ys : List ℤ) → Wider bound wide → Agree wide xs ys → Agree bound xs ys
   agree_narrower bound wide xs ys wider a = record { as_many = a.as_many; each = λ name sliced seen. a.each name sliced (seen_wider bound wide name wider seen) }
@@ -80,7 +80,7 @@ module _ (set : Setting) (locals : List ℕ) where
     each = λ other sliced seen. by other sliced (other == name) refl seen;
   }
     where
-      by : (other : ℕ) → set.is_data_local other ≡ false → (b : Bool) → (other == name) ≡ b → ((b || is_among bound other) || not (is_among locals other)) ≡ true → scalar_at (with_scalar xs name v) other ≡ scalar_at (with_scalar ys name v) other
+      by : (other : ℕ) → set.is_data_local other ≡ false → (b : Bool) → (other == name) ≡ b → ((b || is_among bound other) || not (hidden other)) ≡ true → scalar_at (with_scalar xs name v) other ≡ scalar_at (with_scalar ys name v) other
       by other sliced true same seen = subst (λ n. scalar_at (with_scalar xs name v) n ≡ scalar_at (with_scalar ys name v) n) (sym (eqb-true other name same)) (set_same xs ys name v a.as_many)
       by other sliced false apart seen = set_other xs name other v apart ∙ a.each other sliced seen ∙ sym (set_other ys name other v apart)
 
@@ -95,14 +95,14 @@ module _ (set : Setting) (locals : List ℕ) where
       by other sliced true same = absurd (let no : true ≡ false = sym is_data ∙ sym (ap set.is_data_local (eqb-true other name same)) ∙ sliced in cc)
       by other sliced false apart = sym (set_other xs name other v apart)
 
-  pub unseen_given : (bound : List ℕ) (xs : List ℤ) (name : ℕ) (v : ℤ) → is_seen set locals bound name ≡ false → Agree bound xs (with_scalar xs name v)
+  pub unseen_given : (bound : List ℕ) (xs : List ℤ) (name : ℕ) (v : ℤ) → is_seen set hidden bound name ≡ false → Agree bound xs (with_scalar xs name v)
   unseen_given bound xs name v unseen = record {
     as_many = sym (length-set xs name v);
     each = λ other sliced seen. by other seen (other == name) refl;
   }
     where
-      by : (other : ℕ) → is_seen set locals bound other ≡ true → (b : Bool) → (other == name) ≡ b → scalar_at xs other ≡ scalar_at (with_scalar xs name v) other
-      by other seen true same = absurd (let no : true ≡ false = sym seen ∙ ap (is_seen set locals bound) (eqb-true other name same) ∙ unseen in cc)
+      by : (other : ℕ) → is_seen set hidden bound other ≡ true → (b : Bool) → (other == name) ≡ b → scalar_at xs other ≡ scalar_at (with_scalar xs name v) other
+      by other seen true same = absurd (let no : true ≡ false = sym seen ∙ ap (is_seen set hidden bound) (eqb-true other name same) ∙ unseen in cc)
       by other seen false apart = sym (set_other xs name other v apart)
 
   -- scalars that agree do so in an expression that may stand there
@@ -114,5 +114,5 @@ module _ (set : Setting) (locals : List ℕ) where
       by rest true same is = ap test (eqb-true name x same) ∙ and_left (test x) (list_all test xs) e
       by rest false apart is = rest is
 
-  pub agree_in : (bound : List ℕ) (xs ys : List ℤ) (e : Expr) → sees set locals bound e ≡ true → Agree bound xs ys → AgreeIn set e xs ys
-  agree_in bound xs ys e all a name is sliced = a.each name sliced (all_of (is_seen set locals bound) (scalars_in e) name all is)
+  pub agree_in : (bound : List ℕ) (xs ys : List ℤ) (e : Expr) → sees set hidden bound e ≡ true → Agree bound xs ys → AgreeIn set e xs ys
+  agree_in bound xs ys e all a name is sliced = a.each name sliced (all_of (is_seen set hidden bound) (scalars_in e) name all is)

@@ -7,14 +7,14 @@ use Rattle.nest_syntax.specs.declared.operators.Bin.{Bin}
 use Rattle.nest_syntax.specs.declared.operators.Bin.TheVariants as bin
 use Rattle.nest_syntax.specs.declared.operators.Un.{Un}
 use Rattle.nest_syntax.specs.declared.operators.Cause.TheVariants as cause
-use Rattle.nest_syntax.specs.declared.tree.Expr.{Expr, Expr-F, roll-Expr, map-Expr, ind-Expr}
+use Rattle.nest_syntax.specs.declared.tree.Expr.{Expr}
 use Rattle.nest_syntax.specs.declared.tree.Expr.TheVariants as expr
-use Rattle.nest_syntax.specs.declared.tree.Expr.TheVariants.{rolls-Number, rolls-Scalar, rolls-Word, rolls-Unary, rolls-Binary, rolls-Choice}
 use Rattle.nest_syntax.specs.Among.{is_among}
 use Rattle.nest_syntax.specs.Words.{is_zero, truth, apply, apply_un}
 use Rattle.nest_syntax.specs.Arrays.{Array, sizes_of, is_fixed, array_of, located, place_in, word_number, word_at}
 use Rattle.nest_syntax.specs.Value.{value, and_then, operate, read, scalar_at, is_written}
 use Rattle.nest_syntax.specs.Turn.{Turn, Load, Op, Go, Reckoning, reckoning, operation_turn, done_with, inside}
+use Rattle.nest_syntax.proofs.Inductions.{expr_induction}
 use Rattle.nest_syntax.proofs.Equations.{value-number, value-scalar, value-word, value-unary, value-binary, value-choice, reckoning-number, reckoning-scalar, reckoning-word, reckoning-unary, reckoning-binary, reckoning-choice}
 use Rattle.data_local.specs.Names.{scalars_in}
 use Rattle.settle_law.specs.Cuts.{CanBeRead}
@@ -23,28 +23,6 @@ use Rattle.claim_walk.specs.Walk.{Passes, Sweeps, Walk, Goes, Setting, met, behi
 use Rattle.claim_walk.proofs.Equations.{walk-number, walk-scalar, walk-word, walk-unary, walk-binary, walk-choice, scalars-scalar}
 use Rattle.claim_walk.proofs.Slices.{AgreeIn, slice_scalar, slice_word, slice_unary, slice_binary, slice_choice, agree_word, agree_unary, agree_left, agree_right, agree_test, agree_first, agree_second}
 use Rattle.claim_walk.proofs.Held.{IsClaimed, Follows, then_follows, nothing_follows, op_follows, go_follows, go_before, known_operation, any_operation, branches_follow}
-
--- Induction over expressions, one case for each kind of node.
-module _ (P : Expr → Type 0)
-    (at_number : (n : ℤ) → P (expr.Number n))
-    (at_scalar : (name : ℕ) → P (expr.Scalar name))
-    (at_word : (name : ℕ) (place : Expr) → P place → P (expr.Word name place))
-    (at_unary : (o : Un) (a : Expr) → P a → P (expr.Unary o a))
-    (at_binary : (o : Bin) (a b : Expr) → P a → P b → P (expr.Binary o a b))
-    (at_choice : (t a b : Expr) → P t → P a → P b → P (expr.Choice t a b)) where
-  abbrev Such : Type 0
-  Such = (e : Expr) × P e
-
-  layer : (y : Expr-F Such) → P (roll-Expr (map-Expr Such Expr (λ e. e.0) y))
-  layer (Expr-F.Number n) = subst P (sym (rolls-Number n)) (at_number n)
-  layer (Expr-F.Scalar name) = subst P (sym (rolls-Scalar name)) (at_scalar name)
-  layer (Expr-F.Word name place) = subst P (sym (rolls-Word name place.0)) (at_word name place.0 place.1)
-  layer (Expr-F.Unary o a) = subst P (sym (rolls-Unary o a.0)) (at_unary o a.0 a.1)
-  layer (Expr-F.Binary o a b) = subst P (sym (rolls-Binary o a.0 b.0)) (at_binary o a.0 b.0 a.1 b.1)
-  layer (Expr-F.Choice t a b) = subst P (sym (rolls-Choice t.0 a.0 b.0)) (at_choice t.0 a.0 b.0 t.1 a.1 b.1)
-
-  pub expr_induction : (e : Expr) → P e
-  expr_induction = ind-Expr P (λ x y is. subst (λ d. P (roll-Expr d)) is (layer y))
 
 -- what is located is inside its array
 module _ (arrays : List Array) where

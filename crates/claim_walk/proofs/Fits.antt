@@ -1,6 +1,6 @@
 -- What the rules of a program say of a body, as a test over its statements: which names an expression may use, where a
 -- slice local is given a value, and what the loops of the body are.
-use Rattle.std.proofs.Common.{◌≡◌, ℕ, Bool, true, not, ◌||◌, ◌&&◌, List, [], ◌∷◌, map, sym, ap, ◌∙◌}
+use Rattle.std.proofs.Common.{◌≡◌, ℕ, Bool, true, not, is_none, ◌||◌, ◌&&◌, List, [], ◌∷◌, map, sym, ap, ◌∙◌}
 use Rattle.std.specs.List.{list_all}
 use Rattle.nest_syntax.specs.declared.names.Line.{Line}
 use Rattle.nest_syntax.specs.declared.operators.Op.{Op as Change}
@@ -12,7 +12,10 @@ use Rattle.nest_syntax.specs.declared.tree.Stmt.TheOpen.{Stmt-F, Arm-F, Loop-F}
 use Rattle.nest_syntax.specs.declared.tree.Stmt.TheFolds.{fold-Stmt, fold-Arm, fold-Loop, fold-roll-Stmt, fold_out-Arm, fold_out-Loop}
 use Rattle.nest_syntax.specs.declared.tree.Stmt.TheVariants as stmt
 use Rattle.nest_syntax.specs.declared.tree.Stmt.TheVariants.{rolls-Declare, rolls-Assign, rolls-Write, rolls-If, rolls-Loop}
+use Rattle.nest_syntax.specs.declared.tree.Program.{Program}
 use Rattle.nest_syntax.specs.Among.{is_among}
+use Rattle.nest_syntax.specs.Locals.{locals_of}
+use Rattle.nest_check.specs.Tables.{scalar_of}
 use Rattle.data_local.specs.Names.{scalars_in}
 use Rattle.claim_walk.specs.Walk.{Setting, is_slice}
 
@@ -43,10 +46,14 @@ abbrev pub in_arms : List Arm_fitting → Test → Test
 in_arms [] other bound under = other bound under
 in_arms (arm ∷ arms) other bound under = arm.sees bound && (arm.fits bound (under || arm.is_data) && in_arms arms other bound (under || arm.is_data))
 
-module _ (set : Setting) (locals : List ℕ) where
-  -- a name that may be used: it is bound, or it is no local of the body at all
+-- the names that a body uses only where it binds them: its locals, and all that aren't scalars of the scheduler
+abbrev pub hidden_in : Program → List Stmt → ℕ → Bool
+hidden_in program body name = is_among (locals_of body) name || is_none (scalar_of program name)
+
+module _ (set : Setting) (hidden : ℕ → Bool) where
+  -- a name that may be used: it is bound, or it isn't one of those that are used only where they are bound
   abbrev pub is_seen : List ℕ → ℕ → Bool
-  is_seen bound name = is_among bound name || not (is_among locals name)
+  is_seen bound name = is_among bound name || not (hidden name)
 
   abbrev pub sees : List ℕ → Expr → Bool
   sees bound e = list_all (is_seen bound) (scalars_in e)
@@ -56,7 +63,7 @@ module _ (set : Setting) (locals : List ℕ) where
   gives under name e = set.is_data_local name || (is_slice set e && not under)
 
   abbrev pub bounds_fit : List ℕ → ℕ → Expr → Expr → Bool
-  bounds_fit bound name low high = (is_slice set low && is_slice set high) && ((sees bound low && sees bound high) && (is_among locals name && not (is_among bound name)))
+  bounds_fit bound name low high = (is_slice set low && is_slice set high) && ((sees bound low && sees bound high) && (hidden name && not (is_among bound name)))
 
   abbrev pub fits_node : Stmt-F Fitting Arm_fitting Test → Fitting
   fits_node (Stmt-F.Declare line name e) = record { fits = λ bound under. sees bound e && gives under name e; behind = λ bound. name ∷ bound }

@@ -8,5 +8,9 @@ pub mod Statements
 pub mod Ruled
 pub mod Bodies
 pub mod Whole
+pub mod Rounds
+pub mod Alike
+pub mod Scope
 pub mod Others
+pub mod Lengths
 pub mod Samples

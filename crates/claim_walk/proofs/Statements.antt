@@ -34,7 +34,7 @@ use Rattle.claim_walk.proofs.Agreeing.{and_left, and_right, not_false, Agree, ag
 -- `=`, and every `op=`
 module _ (P : Change → Type 0) (at_set : P op.Set) (at_change : (o : Change) (operation : Bin) → operation_of o ≡ Some operation → walks.assigning o ≡ Passes ∷ Passes ∷ []
     → ((set : Setting) (name : ℕ) (known : List ℤ) (place : Expr) → write set o name known place ≡ behind (access set true false name known place) (behind (meets Passes) (access set true true name known place))) → P o) where
-  by_change : (o : Change) → P o
+  pub by_change : (o : Change) → P o
   by_change op.Set = at_set
   by_change op.Add = at_change op.Add bin.Add refl refl (λ set name known place. refl)
   by_change op.Sub = at_change op.Sub bin.Sub refl refl (λ set name known place. refl)
@@ -51,7 +51,7 @@ abbrev pub IsEnding : Walked → Type 0
 IsEnding (Ends steps known) = Unit {0}
 IsEnding (Traps steps known) = ⊥
 
-module _ (set : Setting) (locals : List ℕ) (fixed : ℕ → Option ℤ) (claims : Claims) (tells : TellsConst set.arrays set.words fixed) where
+module _ (set : Setting) (hidden : ℕ → Bool) (fixed : ℕ → Option ℤ) (claims : Claims) (tells : TellsConst set.arrays set.words fixed) where
   abbrev pub sizes : List ℕ
   sizes = sizes_of set.arrays
 
@@ -65,7 +65,7 @@ module _ (set : Setting) (locals : List ℕ) (fixed : ℕ → Option ℤ) (claim
   follows = Follows sizes fixed claims
 
   abbrev pub agree : List ℕ → List ℤ → List ℤ → Type 0
-  agree = Agree set locals
+  agree = Agree set hidden
 
   -- What a statement does, of any turns that follow it, where all that its walk meets is claimed: if its turn goes on with
   -- scalars that are so beside the known ones, it is held with the steps of the walk on top.
@@ -125,7 +125,7 @@ module _ (set : Setting) (locals : List ℕ) (fixed : ℕ → Option ℤ) (claim
   IsKept walked fits = (bound : List ℕ) → fits bound true ≡ true → (known : List ℤ) → agree bound known (known_after (walked known))
 
   abbrev pub Widens : (List ℕ → List ℕ) → Type 0
-  Widens wider = (bound : List ℕ) → Wider set locals bound (wider bound)
+  Widens wider = (bound : List ℕ) → Wider set hidden bound (wider bound)
 
   pub record Part (walked : Effect) (does : turn.Effect) (fits : Test) (wider : List ℕ → List ℕ) : Type 0 where
     pub runs : IsHeld walked does fits wider
@@ -133,7 +133,7 @@ module _ (set : Setting) (locals : List ℕ) (fixed : ℕ → Option ℤ) (claim
     pub wide : Widens wider
 
   abbrev pub StmtPart : Stmt → Type 0
-  StmtPart s = Part (walk_stmt set s) (effect set.arrays s) (fit set locals s).fits (fit set locals s).behind
+  StmtPart s = Part (walk_stmt set s) (effect set.arrays s) (fit set hidden s).fits (fit set hidden s).behind
 
   -- what is known behind two parts
   kept_before : (steps : List Step) (w : Walked) → known_after (steps_before steps w) ≡ known_after w
@@ -142,10 +142,10 @@ module _ (set : Setting) (locals : List ℕ) (fixed : ℕ → Option ℤ) (claim
 
   kept_after : (bound : List ℕ) (w : Walk) (next : Effect) (known : List ℤ) → agree bound known (known_after (next known)) → agree bound known (known_after (after w next known))
   kept_after bound (Goes steps) next known a = subst (agree bound known) (sym (kept_before steps (next known))) a
-  kept_after bound (Stops steps) next known a = agree_refl set locals bound known
+  kept_after bound (Stops steps) next known a = agree_refl set hidden bound known
 
   kept_then : (bound : List ℕ) (w : Walked) (next : Effect) (known : List ℤ) → agree bound known (known_after w) → agree bound (known_after w) (known_after (next (known_after w))) → agree bound known (known_after (then_do w next))
-  kept_then bound (Ends steps later) next known a b = subst (agree bound known) (sym (kept_before steps (next later))) (agree_trans set locals bound known later (known_after (next later)) a b)
+  kept_then bound (Ends steps later) next known a b = subst (agree bound known) (sym (kept_before steps (next later))) (agree_trans set hidden bound known later (known_after (next later)) a b)
   kept_then bound (Traps steps later) next known a b = a
 
   kept_branch : (bound : List ℕ) (w : Walked) (known : List ℤ) → agree bound known (known_after w) → agree bound known (known_after (data_branch w))
@@ -153,7 +153,7 @@ module _ (set : Setting) (locals : List ℕ) (fixed : ℕ → Option ℤ) (claim
   kept_branch bound (Traps steps later) known a = a
 
   -- an assignment, behind the walk of its value
-  module _ (bound : List ℕ) (under : Bool) (known scalars : List ℤ) (a : agree bound known scalars) (name : ℕ) (e : Expr) (v : ℤ) (told : IsTold set fixed claims tells e known v) (gives_it : gives set locals under name e ≡ true) (line : Line) where
+  module _ (bound : List ℕ) (under : Bool) (known scalars : List ℤ) (a : agree bound known scalars) (name : ℕ) (e : Expr) (v : ℤ) (told : IsTold set fixed claims tells e known v) (gives_it : gives set hidden under name e ≡ true) (line : Line) where
     abbrev Left : List ℤ → List ℤ → Type 0
     Left = Leaves bound (name ∷ bound) under scalars
 
@@ -164,18 +164,18 @@ module _ (set : Setting) (locals : List ℕ) (fixed : ℕ → Option ℤ) (claim
     left_data : set.is_data_local name ≡ true → (new : ℤ) → Left known (with_scalar scalars name new)
     left_data is new = (
       record {
-        as_many = a.as_many ∙ (data_given set locals bound scalars name new is).as_many;
+        as_many = a.as_many ∙ (data_given set hidden bound scalars name new is).as_many;
         each = λ other sliced seen. by other sliced (other == name) refl seen;
       },
-      λ u. data_given set locals bound scalars name new is,
+      λ u. data_given set hidden bound scalars name new is,
     )
       where
-        by : (other : ℕ) → set.is_data_local other ≡ false → (b : Bool) → (other == name) ≡ b → ((b || is_among bound other) || not (is_among locals other)) ≡ true → scalar_at known other ≡ scalar_at (with_scalar scalars name new) other
+        by : (other : ℕ) → set.is_data_local other ≡ false → (b : Bool) → (other == name) ≡ b → ((b || is_among bound other) || not (hidden other)) ≡ true → scalar_at known other ≡ scalar_at (with_scalar scalars name new) other
         by other sliced true same seen = absurd (let no : true ≡ false = sym is ∙ sym (ap set.is_data_local (eqb-true other name same)) ∙ sliced in cc)
         by other sliced false apart seen = a.each other sliced seen ∙ sym (set_other scalars name other new apart)
 
     left_slice : under ≡ false → (new : ℤ) → Left (with_scalar known name new) (with_scalar scalars name new)
-    left_slice free new = (agree_given set locals bound known scalars name new a, λ u. absurd (let no : true ≡ false = sym u ∙ free in cc))
+    left_slice free new = (agree_given set hidden bound known scalars name new a, λ u. absurd (let no : true ≡ false = sym u ∙ free in cc))
 
     by_data : set.is_data_local name ≡ true → (r : Result ℤ Cause) → Runs (Ends (Passes ∷ Passes ∷ []) known) Left (λ go. done_with line r (λ new. Op (go (with_scalar scalars name new))))
     by_data is (Ok new) all go m h = (suc m, omega arith, (m, omega arith, h tt (with_scalar scalars name new) (left_data is new)))
@@ -216,11 +216,11 @@ module _ (set : Setting) (locals : List ℕ) (fixed : ℕ → Option ℤ) (claim
     assign_runs = by_change (λ o. IsOld → Runs (assign set o name e known) Left (does_assign (operation_of o))) (λ old. set_runs) (λ o operation is_op two written old. change_runs o operation is_op two old)
 
   -- an assignment under a data test leaves what is known
-  assign_kept : (bound : List ℕ) (known : List ℤ) (o : Change) (name : ℕ) (e : Expr) → gives set locals true name e ≡ true → agree bound known (known_after (assign set o name e known))
+  assign_kept : (bound : List ℕ) (known : List ℤ) (o : Change) (name : ℕ) (e : Expr) → gives set hidden true name e ≡ true → agree bound known (known_after (assign set o name e known))
   assign_kept bound known o name e gives_it = by (set.is_data_local name) gives_it
     where
       by : (b : Bool) → (b || (is_slice set e && false)) ≡ true → agree bound known (known_after (if b then Ends (walks.assigning o) known else given o name (and_then (value_of set known e) (assigned (operation_of o) (scalar_at known name))) known))
-      by true is = agree_refl set locals bound known
+      by true is = agree_refl set hidden bound known
       by false is = absurd (let no : false ≡ true = and_right (is_slice set e) false is in cc)
 
   -- the write of a word, behind the walks of its subscript and its value
@@ -258,7 +258,7 @@ module _ (set : Setting) (locals : List ℕ) (fixed : ℕ → Option ℤ) (claim
         }
 
     left : Unchanged known scalars
-    left = (a, λ u. agree_refl set locals bound scalars)
+    left = (a, λ u. agree_refl set hidden bound scalars)
 
     abbrev Writes : Change → Type 0
     Writes o = Runs (after (write set o name known place) ends known) Unchanged (does_write (operation_of o) (located set.arrays name at))
@@ -291,32 +291,32 @@ module _ (set : Setting) (locals : List ℕ) (fixed : ℕ → Option ℤ) (claim
     write_runs = by_change Writes set_writes (λ o operation is_op two written. change_writes o operation is_op written)
 
   -- a block
-  block_part : (stmts : List Stmt) → Each StmtPart stmts → Part (walk_block set stmts) (turn.sequence (map (effect set.arrays) stmts)) (fit_block set locals stmts) (behind_block set locals stmts)
+  block_part : (stmts : List Stmt) → Each StmtPart stmts → Part (walk_block set stmts) (turn.sequence (map (effect set.arrays) stmts)) (fit_block set hidden stmts) (behind_block set hidden stmts)
   block_part [] each = record {
-    runs = λ bound under fits known scalars a all go m h. more sizes fixed claims (go scalars) m (0 + m) (omega arith) (h tt scalars (a, λ u. agree_refl set locals bound scalars));
-    kept = λ bound fits known. agree_refl set locals bound known;
+    runs = λ bound under fits known scalars a all go m h. more sizes fixed claims (go scalars) m (0 + m) (omega arith) (h tt scalars (a, λ u. agree_refl set hidden bound scalars));
+    kept = λ bound fits known. agree_refl set hidden bound known;
     wide = λ bound name is. is;
   }
   block_part (s ∷ stmts) each =
       let rest = block_part stmts each.1 in
       let own = each.0 in record {
         runs = λ bound under fits known scalars a.
-            let here = and_left ((fit set locals s).fits bound under) (fit_block set locals stmts ((fit set locals s).behind bound) under) fits in
-            let others = and_right ((fit set locals s).fits bound under) (fit_block set locals stmts ((fit set locals s).behind bound) under) fits in
-            let next = (fit set locals s).behind bound in
-            then_runs (walk_stmt set s known) (Leaves bound next under scalars) (effect set.arrays s scalars) (own.runs bound under here known scalars a) (walk_block set stmts) (Leaves bound (behind_block set locals stmts next) under scalars)
+            let here = and_left ((fit set hidden s).fits bound under) (fit_block set hidden stmts ((fit set hidden s).behind bound) under) fits in
+            let others = and_right ((fit set hidden s).fits bound under) (fit_block set hidden stmts ((fit set hidden s).behind bound) under) fits in
+            let next = (fit set hidden s).behind bound in
+            then_runs (walk_stmt set s known) (Leaves bound next under scalars) (effect set.arrays s scalars) (own.runs bound under here known scalars a) (walk_block set stmts) (Leaves bound (behind_block set hidden stmts next) under scalars)
             (λ later. turn.sequence (map (effect set.arrays) stmts) later)
-            (λ ending later left. weaker (walk_block set stmts (known_after (walk_stmt set s known))) (Leaves next (behind_block set locals stmts next) under later) (Leaves bound (behind_block set locals stmts next) under scalars) (turn.sequence (map (effect set.arrays) stmts) later)
+            (λ ending later left. weaker (walk_block set stmts (known_after (walk_stmt set s known))) (Leaves next (behind_block set hidden stmts next) under later) (Leaves bound (behind_block set hidden stmts next) under scalars) (turn.sequence (map (effect set.arrays) stmts) later)
             (rest.runs next under others (known_after (walk_stmt set s known)) later left.0)
-            (λ last more_left. (more_left.0, λ u. agree_trans set locals bound scalars later last (left.1 u) (agree_narrower set locals bound next later last (own.wide bound) (more_left.1 u)))));
+            (λ last more_left. (more_left.0, λ u. agree_trans set hidden bound scalars later last (left.1 u) (agree_narrower set hidden bound next later last (own.wide bound) (more_left.1 u)))));
         kept = λ bound fits known.
-            let next = (fit set locals s).behind bound in
-            let here = and_left ((fit set locals s).fits bound true) (fit_block set locals stmts next true) fits in
-            let others = and_right ((fit set locals s).fits bound true) (fit_block set locals stmts next true) fits in
+            let next = (fit set hidden s).behind bound in
+            let here = and_left ((fit set hidden s).fits bound true) (fit_block set hidden stmts next true) fits in
+            let others = and_right ((fit set hidden s).fits bound true) (fit_block set hidden stmts next true) fits in
             let now = known_after (walk_stmt set s known) in
             kept_then bound (walk_stmt set s known) (walk_block set stmts) known (own.kept bound here known)
-            (agree_narrower set locals bound next now (known_after (walk_block set stmts now)) (own.wide bound) (rest.kept next others now));
-        wide = λ bound name is. rest.wide ((fit set locals s).behind bound) name (own.wide bound name is);
+            (agree_narrower set hidden bound next now (known_after (walk_block set stmts now)) (own.wide bound) (rest.kept next others now));
+        wide = λ bound name is. rest.wide ((fit set hidden s).behind bound) name (own.wide bound name is);
       }
 
   -- an arm before the others: its test decides, or both are data branches
@@ -331,7 +331,7 @@ module _ (set : Setting) (locals : List ℕ) (fixed : ℕ → Option ℤ) (claim
     arm_walked known = after (walk set known test) (after (meets Passes) (tried set test walked rest)) known
 
     abbrev arm_fits : Test
-    arm_fits bound under = sees set locals bound test && (fits bound (under || is_data) && others bound (under || is_data))
+    arm_fits bound under = sees set hidden bound test && (fits bound (under || is_data) && others bound (under || is_data))
 
     or_same : (a b : Bool) → b ≡ false → (a || b) ≡ a
     or_same true b e = refl
@@ -349,7 +349,7 @@ module _ (set : Setting) (locals : List ℕ) (fixed : ℕ → Option ℤ) (claim
         by : (b : Bool) → Runs (if b then rest known else walked known) (Leaves bound bound under scalars) (λ go. if b then otherwise scalars go else does scalars go)
         by true = left.runs bound under fit_rest known scalars a
         by false = weaker (walked known) (Leaves bound (wider bound) under scalars) (Leaves bound bound under scalars) (does scalars) (body.runs bound under fit_body known scalars a)
-            (λ later is. (agree_narrower set locals bound (wider bound) (known_after (walked known)) later (body.wide bound) is.0, is.1))
+            (λ later is. (agree_narrower set hidden bound (wider bound) (known_after (walked known)) later (body.wide bound) is.0, is.1))
 
     -- two data branches
     split : (bound : List ℕ) (under : Bool) → fits bound true ≡ true → others bound true ≡ true → (known scalars : List ℤ) → agree bound known scalars → (v : ℤ)
@@ -368,14 +368,14 @@ module _ (set : Setting) (locals : List ℕ) (fixed : ℕ → Option ℤ) (claim
             let both : length (steps_of w ++ steps_of x) ≡ length (steps_of w) + length (steps_of x) = length-append (steps_of w) (steps_of x) in
             more sizes fixed claims (does scalars go) (length (steps_of w) + m) (length (steps_of w ++ steps_of x) + m) (omega (arith, both))
             (runs (each_left (IsClaimed sizes fixed claims) (steps_of w) (steps_of x) all) go m (λ ending later is. h tt later
-            (agree_trans set locals bound (known_after x) known later (agree_sym set locals bound known (known_after x) still) (agree_trans set locals bound known scalars later a (is.1 refl)), λ u. is.1 refl)))
+            (agree_trans set hidden bound (known_after x) known later (agree_sym set hidden bound known (known_after x) still) (agree_trans set hidden bound known scalars later a (is.1 refl)), λ u. is.1 refl)))
 
         two : (w x : Walked) → Runs x (Leaves bound bound true scalars) (otherwise scalars) → agree bound known (known_after x) → Runs (Ends (steps_of w ++ steps_of x) (known_after x)) (Leaves bound bound under scalars) (otherwise scalars)
         two w x runs still all go m h =
             let both : length (steps_of w ++ steps_of x) ≡ length (steps_of w) + length (steps_of x) = length-append (steps_of w) (steps_of x) in
             more sizes fixed claims (otherwise scalars go) (length (steps_of x) + m) (length (steps_of w ++ steps_of x) + m) (omega (arith, both))
             (runs (each_right (IsClaimed sizes fixed claims) (steps_of w) (steps_of x) all) go m (λ ending later is. h tt later
-            (agree_trans set locals bound (known_after x) known later (agree_sym set locals bound known (known_after x) still) (agree_trans set locals bound known scalars later a (is.1 refl)), λ u. is.1 refl)))
+            (agree_trans set hidden bound (known_after x) known later (agree_sym set hidden bound known (known_after x) still) (agree_trans set hidden bound known scalars later a (is.1 refl)), λ u. is.1 refl)))
 
         joined : (w : Walked) → then_do (data_branch w) (λ later. data_branch (rest later)) ≡ Ends (steps_of w ++ steps_of (rest (known_after w))) (known_after (rest (known_after w)))
         joined (Ends steps k) = by_rest (rest k)
@@ -390,10 +390,10 @@ module _ (set : Setting) (locals : List ℕ) (fixed : ℕ → Option ℤ) (claim
             by_rest (Traps others l) = refl
 
         still : agree bound known (known_after (rest (known_after (walked known))))
-        still = agree_trans set locals bound known (known_after (walked known)) (known_after (rest (known_after (walked known)))) first second
+        still = agree_trans set hidden bound known (known_after (walked known)) (known_after (rest (known_after (walked known)))) first second
 
         agree_now : agree bound (known_after (walked known)) scalars
-        agree_now = agree_trans set locals bound (known_after (walked known)) known scalars (agree_sym set locals bound known (known_after (walked known)) first) a
+        agree_now = agree_trans set hidden bound (known_after (walked known)) known scalars (agree_sym set hidden bound known (known_after (walked known)) first) a
 
         by_walks : (w : Walked) → walked known ≡ w → (b : Bool) → Runs (then_do (data_branch (walked known)) (λ later. data_branch (rest later))) (Leaves bound bound under scalars) (λ go. if b then otherwise scalars go else does scalars go)
         by_walks w is true = subst (λ z. Runs z (Leaves bound bound under scalars) (otherwise scalars)) (sym (joined (walked known))) (two (walked known) (rest (known_after (walked known))) (left.runs bound true fit_rest (known_after (walked known)) scalars agree_now) still)
@@ -402,16 +402,16 @@ module _ (set : Setting) (locals : List ℕ) (fixed : ℕ → Option ℤ) (claim
     arm_part : Part arm_walked arm_does arm_fits (λ bound. bound)
     arm_part = record {
       runs = λ bound under fits_all known scalars a.
-          let sees_test = and_left (sees set locals bound test) (fits bound (under || is_data) && others bound (under || is_data)) fits_all in
-          let both = and_right (sees set locals bound test) (fits bound (under || is_data) && others bound (under || is_data)) fits_all in
+          let sees_test = and_left (sees set hidden bound test) (fits bound (under || is_data) && others bound (under || is_data)) fits_all in
+          let both = and_right (sees set hidden bound test) (fits bound (under || is_data) && others bound (under || is_data)) fits_all in
           let fit_body = and_left (fits bound (under || is_data)) (others bound (under || is_data)) both in
           let fit_rest = and_right (fits bound (under || is_data)) (others bound (under || is_data)) both in
-          after_runs (walk set known test) (IsTold set fixed claims tells test known) (reckoning set.arrays test line scalars) (expr_follows set fixed claims tells test line known scalars (agree_in set locals bound known scalars test sees_test a))
+          after_runs (walk set known test) (IsTold set fixed claims tells test known) (reckoning set.arrays test line scalars) (expr_follows set fixed claims tells test line known scalars (agree_in set hidden bound known scalars test sees_test a))
           (after (meets Passes) (tried set test walked rest)) known (Leaves bound bound under scalars) (λ v go. Go (if is_zero v then otherwise scalars go else does scalars go))
           (λ going v told. pause_runs (tried set test walked rest) known (Leaves bound bound under scalars) (λ go. if is_zero v then otherwise scalars go else does scalars go)
           (by_kind bound under known scalars a v told fit_body fit_rest (is_slice set test) refl));
       kept = λ bound fits_all known.
-          let both = and_right (sees set locals bound test) (fits bound true && others bound true) fits_all in
+          let both = and_right (sees set hidden bound test) (fits bound true && others bound true) fits_all in
           kept_after bound (walk set known test) (after (meets Passes) (tried set test walked rest)) known
           (kept_after bound (meets Passes) (tried set test walked rest) known (kept_tried bound known (and_left (fits bound true) (others bound true) both) (and_right (fits bound true) (others bound true) both)));
       wide = λ bound name is. is;
@@ -431,7 +431,7 @@ module _ (set : Setting) (locals : List ℕ) (fixed : ℕ → Option ℤ) (claim
         kept_tried bound known fit_body fit_rest = by (is_slice set test)
           where
             by_result : (r : Result ℤ Cause) → agree bound known (known_after (by_test r walked rest known))
-            by_result (Err cause) = agree_refl set locals bound known
+            by_result (Err cause) = agree_refl set hidden bound known
             by_result (Ok v) = by_zero (is_zero v)
               where
                 by_zero : (b : Bool) → agree bound known (known_after (if b then rest known else walked known))
@@ -445,51 +445,51 @@ module _ (set : Setting) (locals : List ℕ) (fixed : ℕ → Option ℤ) (claim
 
   -- the arms of an `if`, and its last block
   arms_part : (arms : List Arm) (other : List Stmt) → Each (λ (b : Arm). Each StmtPart b.body) arms → Each StmtPart other
-      → Part (choose set (map (walk_arm set) arms) (walk_block set other)) (λ scalars go. turn.choose (map (arm_effect set.arrays) arms) (turn.sequence (map (effect set.arrays) other)) scalars go) (in_arms (map (fit_arm set locals) arms) (fit_block set locals other)) (λ bound. bound)
+      → Part (choose set (map (walk_arm set) arms) (walk_block set other)) (λ scalars go. turn.choose (map (arm_effect set.arrays) arms) (turn.sequence (map (effect set.arrays) other)) scalars go) (in_arms (map (fit_arm set hidden) arms) (fit_block set hidden other)) (λ bound. bound)
   arms_part [] other arms_each other_each =
       let block = block_part other other_each in record {
-        runs = λ bound under fits known scalars a. weaker (walk_block set other known) (Leaves bound (behind_block set locals other bound) under scalars) (Leaves bound bound under scalars) (turn.sequence (map (effect set.arrays) other) scalars) (block.runs bound under fits known scalars a)
-            (λ later is. (agree_narrower set locals bound (behind_block set locals other bound) (known_after (walk_block set other known)) later (block.wide bound) is.0, is.1));
+        runs = λ bound under fits known scalars a. weaker (walk_block set other known) (Leaves bound (behind_block set hidden other bound) under scalars) (Leaves bound bound under scalars) (turn.sequence (map (effect set.arrays) other) scalars) (block.runs bound under fits known scalars a)
+            (λ later is. (agree_narrower set hidden bound (behind_block set hidden other bound) (known_after (walk_block set other known)) later (block.wide bound) is.0, is.1));
         kept = block.kept;
         wide = λ bound name is. is;
       }
   arms_part (b ∷ arms) other arms_each other_each =
-      subst (λ (t : Tried). Part (choose set (t ∷ map (walk_arm set) arms) (walk_block set other)) (λ scalars go. turn.choose (map (arm_effect set.arrays) (b ∷ arms)) (turn.sequence (map (effect set.arrays) other)) scalars go) (in_arms (map (fit_arm set locals) (b ∷ arms)) (fit_block set locals other)) (λ bound. bound)) (sym (walk_arm-is set b))
-      (subst (λ (t : turn.Arm_effect). Part (choose set ((b.test, λ known. walk set known b.test, walk_block set b.body) ∷ map (walk_arm set) arms) (walk_block set other)) (λ scalars go. turn.choose (t ∷ map (arm_effect set.arrays) arms) (turn.sequence (map (effect set.arrays) other)) scalars go) (in_arms (map (fit_arm set locals) (b ∷ arms)) (fit_block set locals other)) (λ bound. bound)) (sym (arm_effect-is set.arrays b))
-      (subst (λ (t : Arm_fitting). Part (choose set ((b.test, λ known. walk set known b.test, walk_block set b.body) ∷ map (walk_arm set) arms) (walk_block set other)) (λ scalars go. reckoning set.arrays b.test b.line scalars (λ v. Go (if is_zero v then turn.choose (map (arm_effect set.arrays) arms) (turn.sequence (map (effect set.arrays) other)) scalars go else turn.sequence (map (effect set.arrays) b.body) scalars go))) (in_arms (t ∷ map (fit_arm set locals) arms) (fit_block set locals other)) (λ bound. bound)) (sym (fit_arm-is set locals b))
+      subst (λ (t : Tried). Part (choose set (t ∷ map (walk_arm set) arms) (walk_block set other)) (λ scalars go. turn.choose (map (arm_effect set.arrays) (b ∷ arms)) (turn.sequence (map (effect set.arrays) other)) scalars go) (in_arms (map (fit_arm set hidden) (b ∷ arms)) (fit_block set hidden other)) (λ bound. bound)) (sym (walk_arm-is set b))
+      (subst (λ (t : turn.Arm_effect). Part (choose set ((b.test, λ known. walk set known b.test, walk_block set b.body) ∷ map (walk_arm set) arms) (walk_block set other)) (λ scalars go. turn.choose (t ∷ map (arm_effect set.arrays) arms) (turn.sequence (map (effect set.arrays) other)) scalars go) (in_arms (map (fit_arm set hidden) (b ∷ arms)) (fit_block set hidden other)) (λ bound. bound)) (sym (arm_effect-is set.arrays b))
+      (subst (λ (t : Arm_fitting). Part (choose set ((b.test, λ known. walk set known b.test, walk_block set b.body) ∷ map (walk_arm set) arms) (walk_block set other)) (λ scalars go. reckoning set.arrays b.test b.line scalars (λ v. Go (if is_zero v then turn.choose (map (arm_effect set.arrays) arms) (turn.sequence (map (effect set.arrays) other)) scalars go else turn.sequence (map (effect set.arrays) b.body) scalars go))) (in_arms (t ∷ map (fit_arm set hidden) arms) (fit_block set hidden other)) (λ bound. bound)) (sym (fit_arm-is set hidden b))
       (arm_part b.test b.line (walk_block set b.body) (choose set (map (walk_arm set) arms) (walk_block set other)) (turn.sequence (map (effect set.arrays) b.body)) (turn.choose (map (arm_effect set.arrays) arms) (turn.sequence (map (effect set.arrays) other)))
-      (fit_block set locals b.body) (in_arms (map (fit_arm set locals) arms) (fit_block set locals other)) (behind_block set locals b.body) (block_part b.body arms_each.0) (arms_part arms other arms_each.1 other_each))))
+      (fit_block set hidden b.body) (in_arms (map (fit_arm set hidden) arms) (fit_block set hidden other)) (behind_block set hidden b.body) (block_part b.body arms_each.0) (arms_part arms other arms_each.1 other_each))))
 
   -- a loop, whose variable may not be used before it
-  module _ (name : ℕ) (variable_in : ℕ → ℤ) (walked : Effect) (does : turn.Effect) (fits : Test) (wider : List ℕ → List ℕ) (body : Part walked does fits wider) (bound : List ℕ) (unseen : is_seen set locals bound name ≡ false) where
+  module _ (name : ℕ) (variable_in : ℕ → ℤ) (walked : Effect) (does : turn.Effect) (fits : Test) (wider : List ℕ → List ℕ) (body : Part walked does fits wider) (bound : List ℕ) (unseen : is_seen set hidden bound name ≡ false) where
     one_turn : (under : Bool) → fits (name ∷ bound) under ≡ true → (k : ℕ) (known scalars : List ℤ) → agree bound known scalars
         → Runs (walked (with_scalar known name (variable_in k))) (Leaves bound bound under scalars) (does (with_scalar scalars name (variable_in k)))
     one_turn under fit_body k known scalars a =
         let x = with_scalar known name (variable_in k) in
         let y = with_scalar scalars name (variable_in k) in
-        weaker (walked x) (Leaves (name ∷ bound) (wider (name ∷ bound)) under y) (Leaves bound bound under scalars) (does y) (body.runs (name ∷ bound) under fit_body x y (agree_given set locals bound known scalars name (variable_in k) a))
+        weaker (walked x) (Leaves (name ∷ bound) (wider (name ∷ bound)) under y) (Leaves bound bound under scalars) (does y) (body.runs (name ∷ bound) under fit_body x y (agree_given set hidden bound known scalars name (variable_in k) a))
         (λ later is. (
-          agree_narrower set locals bound (wider (name ∷ bound)) (known_after (walked x)) later (λ other has_it. body.wide (name ∷ bound) other (one_wider set locals bound name other has_it)) is.0,
-          λ u. agree_trans set locals bound scalars y later (unseen_given set locals bound scalars name (variable_in k) unseen) (agree_narrower set locals bound (name ∷ bound) y later (one_wider set locals bound name) (is.1 u)),
+          agree_narrower set hidden bound (wider (name ∷ bound)) (known_after (walked x)) later (λ other has_it. body.wide (name ∷ bound) other (one_wider set hidden bound name other has_it)) is.0,
+          λ u. agree_trans set hidden bound scalars y later (unseen_given set hidden bound scalars name (variable_in k) unseen) (agree_narrower set hidden bound (name ∷ bound) y later (one_wider set hidden bound name) (is.1 u)),
         ))
 
     turns_run : (under : Bool) → fits (name ∷ bound) under ≡ true → (n k : ℕ) (known scalars : List ℤ) → agree bound known scalars
         → Runs (repeat n k variable_in name walked known) (Leaves bound bound under scalars) (turn.repeat n k variable_in name does scalars)
-    turns_run under fit_body zero k known scalars a = λ all go m h. more sizes fixed claims (go scalars) m (0 + m) (omega arith) (h tt scalars (a, λ u. agree_refl set locals bound scalars))
+    turns_run under fit_body zero k known scalars a = λ all go m h. more sizes fixed claims (go scalars) m (0 + m) (omega arith) (h tt scalars (a, λ u. agree_refl set hidden bound scalars))
     turns_run under fit_body (suc n) k known scalars a =
         let x = with_scalar known name (variable_in k) in
         then_runs (walked x) (Leaves bound bound under scalars) (does (with_scalar scalars name (variable_in k))) (one_turn under fit_body k known scalars a)
         (after (meets Passes) (repeat n (suc k) variable_in name walked)) (Leaves bound bound under scalars) (λ later go. Go (turn.repeat n (suc k) variable_in name does later go))
         (λ ending later is. pause_runs (repeat n (suc k) variable_in name walked) (known_after (walked x)) (Leaves bound bound under scalars) (turn.repeat n (suc k) variable_in name does later)
         (weaker (repeat n (suc k) variable_in name walked (known_after (walked x))) (Leaves bound bound under later) (Leaves bound bound under scalars) (turn.repeat n (suc k) variable_in name does later)
-        (turns_run under fit_body n (suc k) (known_after (walked x)) later is.0) (λ last left. (left.0, λ u. agree_trans set locals bound scalars later last (is.1 u) (left.1 u)))))
+        (turns_run under fit_body n (suc k) (known_after (walked x)) later is.0) (λ last left. (left.0, λ u. agree_trans set hidden bound scalars later last (is.1 u) (left.1 u)))))
 
     turns_kept : fits (name ∷ bound) true ≡ true → (n k : ℕ) (known : List ℤ) → agree bound known (known_after (repeat n k variable_in name walked known))
-    turns_kept fit_body zero k known = agree_refl set locals bound known
+    turns_kept fit_body zero k known = agree_refl set hidden bound known
     turns_kept fit_body (suc n) k known =
         let x = with_scalar known name (variable_in k) in
         kept_then bound (walked x) (after (meets Passes) (repeat n (suc k) variable_in name walked)) known
-        (agree_trans set locals bound known x (known_after (walked x)) (unseen_given set locals bound known name (variable_in k) unseen) (agree_narrower set locals bound (name ∷ bound) x (known_after (walked x)) (one_wider set locals bound name) (body.kept (name ∷ bound) fit_body x)))
+        (agree_trans set hidden bound known x (known_after (walked x)) (unseen_given set hidden bound known name (variable_in k) unseen) (agree_narrower set hidden bound (name ∷ bound) x (known_after (walked x)) (one_wider set hidden bound name) (body.kept (name ∷ bound) fit_body x)))
         (kept_after bound (meets Passes) (repeat n (suc k) variable_in name walked) (known_after (walked x)) (turns_kept fit_body n (suc k) (known_after (walked x))))
 
     looped_runs : (under : Bool) → fits (name ∷ bound) under ≡ true → (line : Line) (r : Result ℕ Cause) (known scalars : List ℤ) → agree bound known scalars
@@ -499,7 +499,7 @@ module _ (set : Setting) (locals : List ℕ) (fixed : ℕ → Option ℤ) (claim
 
     looped_kept : fits (name ∷ bound) true ≡ true → (r : Result ℕ Cause) (known : List ℤ) → agree bound known (known_after (looped r variable_in name walked known))
     looped_kept fit_body (Ok n) known = kept_after bound (meets Passes) (repeat n 0 variable_in name walked) known (turns_kept fit_body n 0 known)
-    looped_kept fit_body (Err cause) known = agree_refl set locals bound known
+    looped_kept fit_body (Err cause) known = agree_refl set hidden bound known
 
   or_false : (a b : Bool) → a ≡ false → b ≡ false → (a || b) ≡ false
   or_false true b e f = absurd (let no : true ≡ false = e in cc)
@@ -509,26 +509,26 @@ module _ (set : Setting) (locals : List ℕ) (fixed : ℕ → Option ℤ) (claim
   record Header (bound : List ℕ) (l : Loop) : Type 0 where
     low : is_slice set l.low ≡ true
     high : is_slice set l.high ≡ true
-    sees_low : sees set locals bound l.low ≡ true
-    sees_high : sees set locals bound l.high ≡ true
-    unseen : is_seen set locals bound l.name ≡ false
+    sees_low : sees set hidden bound l.low ≡ true
+    sees_high : sees set hidden bound l.high ≡ true
+    unseen : is_seen set hidden bound l.name ≡ false
 
-  header_of : (bound : List ℕ) (l : Loop) → bounds_fit set locals bound l.name l.low l.high ≡ true → Header bound l
+  header_of : (bound : List ℕ) (l : Loop) → bounds_fit set hidden bound l.name l.low l.high ≡ true → Header bound l
   header_of bound l e =
-      let slices = and_left (is_slice set l.low && is_slice set l.high) ((sees set locals bound l.low && sees set locals bound l.high) && (is_among locals l.name && not (is_among bound l.name))) e in
-      let rest = and_right (is_slice set l.low && is_slice set l.high) ((sees set locals bound l.low && sees set locals bound l.high) && (is_among locals l.name && not (is_among bound l.name))) e in
-      let seen = and_left (sees set locals bound l.low && sees set locals bound l.high) (is_among locals l.name && not (is_among bound l.name)) rest in
-      let own = and_right (sees set locals bound l.low && sees set locals bound l.high) (is_among locals l.name && not (is_among bound l.name)) rest in
+      let slices = and_left (is_slice set l.low && is_slice set l.high) ((sees set hidden bound l.low && sees set hidden bound l.high) && (hidden l.name && not (is_among bound l.name))) e in
+      let rest = and_right (is_slice set l.low && is_slice set l.high) ((sees set hidden bound l.low && sees set hidden bound l.high) && (hidden l.name && not (is_among bound l.name))) e in
+      let seen = and_left (sees set hidden bound l.low && sees set hidden bound l.high) (hidden l.name && not (is_among bound l.name)) rest in
+      let own = and_right (sees set hidden bound l.low && sees set hidden bound l.high) (hidden l.name && not (is_among bound l.name)) rest in
       record {
         low = and_left (is_slice set l.low) (is_slice set l.high) slices;
         high = and_right (is_slice set l.low) (is_slice set l.high) slices;
-        sees_low = and_left (sees set locals bound l.low) (sees set locals bound l.high) seen;
-        sees_high = and_right (sees set locals bound l.low) (sees set locals bound l.high) seen;
-        unseen = or_false (is_among bound l.name) (not (is_among locals l.name)) (not_false (is_among bound l.name) (and_right (is_among locals l.name) (not (is_among bound l.name)) own)) (ap not (and_left (is_among locals l.name) (not (is_among bound l.name)) own));
+        sees_low = and_left (sees set hidden bound l.low) (sees set hidden bound l.high) seen;
+        sees_high = and_right (sees set hidden bound l.low) (sees set hidden bound l.high) seen;
+        unseen = or_false (is_among bound l.name) (not (hidden l.name)) (not_false (is_among bound l.name) (and_right (hidden l.name) (not (is_among bound l.name)) own)) (ap not (and_left (hidden l.name) (not (is_among bound l.name)) own));
       }
 
   module _ (l : Loop) (each : Each StmtPart l.body) where
-    abbrev block : Part (walk_block set l.body) (turn.sequence (map (effect set.arrays) l.body)) (fit_block set locals l.body) (behind_block set locals l.body)
+    abbrev block : Part (walk_block set l.body) (turn.sequence (map (effect set.arrays) l.body)) (fit_block set hidden l.body) (behind_block set hidden l.body)
     block = block_part l.body each
 
     abbrev loop_walked : Effect
@@ -538,95 +538,95 @@ module _ (set : Setting) (locals : List ℕ) (fixed : ℕ → Option ℤ) (claim
     loop_does scalars go = reckoning set.arrays l.low l.line scalars (λ low. reckoning set.arrays l.high l.line scalars (λ high. looping l.line (counted (turns low high l.step l.through)) (variable low l.step) l.name (turn.sequence (map (effect set.arrays) l.body)) scalars go))
 
     abbrev loop_fits : Test
-    loop_fits bound under = bounds_fit set locals bound l.name l.low l.high && fit_block set locals l.body (l.name ∷ bound) under
+    loop_fits bound under = bounds_fit set hidden bound l.name l.low l.high && fit_block set hidden l.body (l.name ∷ bound) under
 
     loop_part : Part loop_walked loop_does loop_fits (λ bound. bound)
     loop_part = record {
       runs = λ bound under fits known scalars a.
-          let header = header_of bound l (and_left (bounds_fit set locals bound l.name l.low l.high) (fit_block set locals l.body (l.name ∷ bound) under) fits) in
-          let fit_body = and_right (bounds_fit set locals bound l.name l.low l.high) (fit_block set locals l.body (l.name ∷ bound) under) fits in
-          after_runs (walk set known l.low) (IsTold set fixed claims tells l.low known) (reckoning set.arrays l.low l.line scalars) (expr_follows set fixed claims tells l.low l.line known scalars (agree_in set locals bound known scalars l.low header.sees_low a))
+          let header = header_of bound l (and_left (bounds_fit set hidden bound l.name l.low l.high) (fit_block set hidden l.body (l.name ∷ bound) under) fits) in
+          let fit_body = and_right (bounds_fit set hidden bound l.name l.low l.high) (fit_block set hidden l.body (l.name ∷ bound) under) fits in
+          after_runs (walk set known l.low) (IsTold set fixed claims tells l.low known) (reckoning set.arrays l.low l.line scalars) (expr_follows set fixed claims tells l.low l.line known scalars (agree_in set hidden bound known scalars l.low header.sees_low a))
           (after (walk set known l.high) (turned l.step l.through l.name (walk_block set l.body) (value_of set known l.low) (value_of set known l.high))) known (Leaves bound bound under scalars)
           (λ low go. reckoning set.arrays l.high l.line scalars (λ high. looping l.line (counted (turns low high l.step l.through)) (variable low l.step) l.name (turn.sequence (map (effect set.arrays) l.body)) scalars go))
-          (λ going low told_low. after_runs (walk set known l.high) (IsTold set fixed claims tells l.high known) (reckoning set.arrays l.high l.line scalars) (expr_follows set fixed claims tells l.high l.line known scalars (agree_in set locals bound known scalars l.high header.sees_high a))
+          (λ going low told_low. after_runs (walk set known l.high) (IsTold set fixed claims tells l.high known) (reckoning set.arrays l.high l.line scalars) (expr_follows set fixed claims tells l.high l.line known scalars (agree_in set hidden bound known scalars l.high header.sees_high a))
           (turned l.step l.through l.name (walk_block set l.body) (value_of set known l.low) (value_of set known l.high)) known (Leaves bound bound under scalars)
           (λ high go. looping l.line (counted (turns low high l.step l.through)) (variable low l.step) l.name (turn.sequence (map (effect set.arrays) l.body)) scalars go)
           (λ going high told_high.
           subst (λ r. Runs (turned l.step l.through l.name (walk_block set l.body) r (value_of set known l.high) known) (Leaves bound bound under scalars) (looping l.line (counted (turns low high l.step l.through)) (variable low l.step) l.name (turn.sequence (map (effect set.arrays) l.body)) scalars)) (sym (told_low header.low))
           (subst (λ r. Runs (turned l.step l.through l.name (walk_block set l.body) (Ok low) r known) (Leaves bound bound under scalars) (looping l.line (counted (turns low high l.step l.through)) (variable low l.step) l.name (turn.sequence (map (effect set.arrays) l.body)) scalars)) (sym (told_high header.high))
-          (looped_runs l.name (variable low l.step) (walk_block set l.body) (turn.sequence (map (effect set.arrays) l.body)) (fit_block set locals l.body) (behind_block set locals l.body) block bound header.unseen under fit_body l.line (counted (turns low high l.step l.through)) known scalars a))));
+          (looped_runs l.name (variable low l.step) (walk_block set l.body) (turn.sequence (map (effect set.arrays) l.body)) (fit_block set hidden l.body) (behind_block set hidden l.body) block bound header.unseen under fit_body l.line (counted (turns low high l.step l.through)) known scalars a))));
       kept = λ bound fits known.
-          let header = header_of bound l (and_left (bounds_fit set locals bound l.name l.low l.high) (fit_block set locals l.body (l.name ∷ bound) true) fits) in
-          let fit_body = and_right (bounds_fit set locals bound l.name l.low l.high) (fit_block set locals l.body (l.name ∷ bound) true) fits in
+          let header = header_of bound l (and_left (bounds_fit set hidden bound l.name l.low l.high) (fit_block set hidden l.body (l.name ∷ bound) true) fits) in
+          let fit_body = and_right (bounds_fit set hidden bound l.name l.low l.high) (fit_block set hidden l.body (l.name ∷ bound) true) fits in
           kept_after bound (walk set known l.low) (after (walk set known l.high) (turned l.step l.through l.name (walk_block set l.body) (value_of set known l.low) (value_of set known l.high))) known
           (kept_after bound (walk set known l.high) (turned l.step l.through l.name (walk_block set l.body) (value_of set known l.low) (value_of set known l.high)) known (turned_kept bound known header.unseen fit_body (value_of set known l.low) (value_of set known l.high)));
       wide = λ bound name is. is;
     }
       where
-        turned_kept : (bound : List ℕ) (known : List ℤ) → is_seen set locals bound l.name ≡ false → fit_block set locals l.body (l.name ∷ bound) true ≡ true → (low high : Result ℤ Cause) → agree bound known (known_after (turned l.step l.through l.name (walk_block set l.body) low high known))
-        turned_kept bound known unseen fit_body (Ok low) (Ok high) = looped_kept l.name (variable low l.step) (walk_block set l.body) (turn.sequence (map (effect set.arrays) l.body)) (fit_block set locals l.body) (behind_block set locals l.body) block bound unseen fit_body (counted (turns low high l.step l.through)) known
-        turned_kept bound known unseen fit_body (Ok low) (Err cause) = agree_refl set locals bound known
-        turned_kept bound known unseen fit_body (Err cause) (Ok high) = agree_refl set locals bound known
-        turned_kept bound known unseen fit_body (Err cause) (Err other) = agree_refl set locals bound known
+        turned_kept : (bound : List ℕ) (known : List ℤ) → is_seen set hidden bound l.name ≡ false → fit_block set hidden l.body (l.name ∷ bound) true ≡ true → (low high : Result ℤ Cause) → agree bound known (known_after (turned l.step l.through l.name (walk_block set l.body) low high known))
+        turned_kept bound known unseen fit_body (Ok low) (Ok high) = looped_kept l.name (variable low l.step) (walk_block set l.body) (turn.sequence (map (effect set.arrays) l.body)) (fit_block set hidden l.body) (behind_block set hidden l.body) block bound unseen fit_body (counted (turns low high l.step l.through)) known
+        turned_kept bound known unseen fit_body (Ok low) (Err cause) = agree_refl set hidden bound known
+        turned_kept bound known unseen fit_body (Err cause) (Ok high) = agree_refl set hidden bound known
+        turned_kept bound known unseen fit_body (Err cause) (Err other) = agree_refl set hidden bound known
 
   -- each kind of statement, by its equations
-  as_is : (s : Stmt) (walked : Effect) (does : turn.Effect) (fitting : Fitting) → walk_stmt set s ≡ walked → effect set.arrays s ≡ does → fit set locals s ≡ fitting → Part walked does fitting.fits fitting.behind → StmtPart s
+  as_is : (s : Stmt) (walked : Effect) (does : turn.Effect) (fitting : Fitting) → walk_stmt set s ≡ walked → effect set.arrays s ≡ does → fit set hidden s ≡ fitting → Part walked does fitting.fits fitting.behind → StmtPart s
   as_is s walked does fitting walks_it does_it fits_it part =
       subst (λ (f : Fitting). Part (walk_stmt set s) (effect set.arrays s) f.fits f.behind) (sym fits_it)
       (subst (λ d. Part (walk_stmt set s) d fitting.fits fitting.behind) (sym does_it)
       (subst (λ w. Part w does fitting.fits fitting.behind) (sym walks_it) part))
 
   declare_part : (line : Line) (name : ℕ) (e : Expr) → StmtPart (stmt.Declare line name e)
-  declare_part line name e = as_is (stmt.Declare line name e) _ _ _ (walk-declare set line name e) (effect-declare set.arrays line name e) (fit-declare set locals line name e) (record {
+  declare_part line name e = as_is (stmt.Declare line name e) _ _ _ (walk-declare set line name e) (effect-declare set.arrays line name e) (fit-declare set hidden line name e) (record {
     runs = λ bound under fits known scalars a.
-        after_runs (walk set known e) (IsTold set fixed claims tells e known) (reckoning set.arrays e line scalars) (expr_follows set fixed claims tells e line known scalars (agree_in set locals bound known scalars e (and_left (sees set locals bound e) (gives set locals under name e) fits) a))
+        after_runs (walk set known e) (IsTold set fixed claims tells e known) (reckoning set.arrays e line scalars) (expr_follows set fixed claims tells e line known scalars (agree_in set hidden bound known scalars e (and_left (sees set hidden bound e) (gives set hidden under name e) fits) a))
         (assign set op.Set name e) known (Leaves bound (name ∷ bound) under scalars) (λ v go. Op (go (with_scalar scalars name v)))
-        (λ going v told. set_runs bound under known scalars a name e v told (and_right (sees set locals bound e) (gives set locals under name e) fits) line);
-    kept = λ bound fits known. kept_after bound (walk set known e) (assign set op.Set name e) known (assign_kept bound known op.Set name e (and_right (sees set locals bound e) (gives set locals true name e) fits));
-    wide = λ bound. one_wider set locals bound name;
+        (λ going v told. set_runs bound under known scalars a name e v told (and_right (sees set hidden bound e) (gives set hidden under name e) fits) line);
+    kept = λ bound fits known. kept_after bound (walk set known e) (assign set op.Set name e) known (assign_kept bound known op.Set name e (and_right (sees set hidden bound e) (gives set hidden true name e) fits));
+    wide = λ bound. one_wider set hidden bound name;
   })
 
   assign_part : (line : Line) (name : ℕ) (o : Change) (e : Expr) → StmtPart (stmt.Assign line name o e)
-  assign_part line name o e = as_is (stmt.Assign line name o e) _ _ _ (walk-assign set line name o e) (effect-assign set.arrays line name o e) (fit-assign set locals line name o e) (record {
+  assign_part line name o e = as_is (stmt.Assign line name o e) _ _ _ (walk-assign set line name o e) (effect-assign set.arrays line name o e) (fit-assign set hidden line name o e) (record {
     runs = λ bound under fits known scalars a.
-        let seen = and_left (is_seen set locals bound name) (sees set locals bound e && gives set locals under name e) fits in
-        let rest = and_right (is_seen set locals bound name) (sees set locals bound e && gives set locals under name e) fits in
-        after_runs (walk set known e) (IsTold set fixed claims tells e known) (reckoning set.arrays e line scalars) (expr_follows set fixed claims tells e line known scalars (agree_in set locals bound known scalars e (and_left (sees set locals bound e) (gives set locals under name e) rest) a))
+        let seen = and_left (is_seen set hidden bound name) (sees set hidden bound e && gives set hidden under name e) fits in
+        let rest = and_right (is_seen set hidden bound name) (sees set hidden bound e && gives set hidden under name e) fits in
+        after_runs (walk set known e) (IsTold set fixed claims tells e known) (reckoning set.arrays e line scalars) (expr_follows set fixed claims tells e line known scalars (agree_in set hidden bound known scalars e (and_left (sees set hidden bound e) (gives set hidden under name e) rest) a))
         (assign set o name e) known (Leaves bound bound under scalars) (λ v go. assigning line (operation_of o) (scalar_at scalars name) v (λ new. Op (go (with_scalar scalars name new))))
         (λ going v told. weaker (assign set o name e known) (Leaves bound (name ∷ bound) under scalars) (Leaves bound bound under scalars) (λ go. assigning line (operation_of o) (scalar_at scalars name) v (λ new. Op (go (with_scalar scalars name new))))
-        (assign_runs bound under known scalars a name e v told (and_right (sees set locals bound e) (gives set locals under name e) rest) line o (λ sliced. a.each name sliced seen))
-        (λ later is. (agree_narrower set locals bound (name ∷ bound) (known_after (assign set o name e known)) later (one_wider set locals bound name) is.0, is.1)));
+        (assign_runs bound under known scalars a name e v told (and_right (sees set hidden bound e) (gives set hidden under name e) rest) line o (λ sliced. a.each name sliced seen))
+        (λ later is. (agree_narrower set hidden bound (name ∷ bound) (known_after (assign set o name e known)) later (one_wider set hidden bound name) is.0, is.1)));
     kept = λ bound fits known. kept_after bound (walk set known e) (assign set o name e) known
-        (assign_kept bound known o name e (and_right (sees set locals bound e) (gives set locals true name e) (and_right (is_seen set locals bound name) (sees set locals bound e && gives set locals true name e) fits)));
+        (assign_kept bound known o name e (and_right (sees set hidden bound e) (gives set hidden true name e) (and_right (is_seen set hidden bound name) (sees set hidden bound e && gives set hidden true name e) fits)));
     wide = λ bound name is. is;
   })
 
   write_part : (line : Line) (name : ℕ) (p : Expr) (o : Change) (e : Expr) → StmtPart (stmt.Write line name p o e)
-  write_part line name p o e = as_is (stmt.Write line name p o e) _ _ _ (walk-write set line name p o e) (effect-write set.arrays line name p o e) (fit-write set locals line name p o e) (record {
+  write_part line name p o e = as_is (stmt.Write line name p o e) _ _ _ (walk-write set line name p o e) (effect-write set.arrays line name p o e) (fit-write set hidden line name p o e) (record {
     runs = λ bound under fits known scalars a.
-        after_runs (walk set known p) (IsTold set fixed claims tells p known) (reckoning set.arrays p line scalars) (expr_follows set fixed claims tells p line known scalars (agree_in set locals bound known scalars p (and_left (sees set locals bound p) (sees set locals bound e) fits) a))
+        after_runs (walk set known p) (IsTold set fixed claims tells p known) (reckoning set.arrays p line scalars) (expr_follows set fixed claims tells p line known scalars (agree_in set hidden bound known scalars p (and_left (sees set hidden bound p) (sees set hidden bound e) fits) a))
         (after (walk set known e) (after (write set o name known p) ends)) known (Leaves bound bound under scalars)
         (λ at go. reckoning set.arrays e line scalars (λ right. inside line (located set.arrays name at) (λ array n. writing line (operation_of o) array n right (go scalars))))
-        (λ going at told. after_runs (walk set known e) (IsTold set fixed claims tells e known) (reckoning set.arrays e line scalars) (expr_follows set fixed claims tells e line known scalars (agree_in set locals bound known scalars e (and_right (sees set locals bound p) (sees set locals bound e) fits) a))
+        (λ going at told. after_runs (walk set known e) (IsTold set fixed claims tells e known) (reckoning set.arrays e line scalars) (expr_follows set fixed claims tells e line known scalars (agree_in set hidden bound known scalars e (and_right (sees set hidden bound p) (sees set hidden bound e) fits) a))
         (after (write set o name known p) ends) known (Leaves bound bound under scalars) (λ right go. inside line (located set.arrays name at) (λ array n. writing line (operation_of o) array n right (go scalars)))
         (λ going right told_right. write_runs bound under known scalars a name p at told right line o));
     kept = λ bound fits known. kept_after bound (walk set known p) (after (walk set known e) (after (write set o name known p) ends)) known
-        (kept_after bound (walk set known e) (after (write set o name known p) ends) known (kept_after bound (write set o name known p) ends known (agree_refl set locals bound known)));
+        (kept_after bound (walk set known e) (after (write set o name known p) ends) known (kept_after bound (write set o name known p) ends known (agree_refl set hidden bound known)));
     wide = λ bound name is. is;
   })
 
   pub stmt_part : (s : Stmt) → StmtPart s
   stmt_part = stmt_induction StmtPart declare_part assign_part write_part
-      (λ arms other in_arms_each in_other. as_is (stmt.If arms other) _ _ _ (walk-if set arms other) (effect-if set.arrays arms other) (fit-if set locals arms other) (arms_part arms other in_arms_each in_other))
-      (λ l each. as_is (stmt.Loop l) _ _ _ (walk-loop set l ∙ walk_loop-is set l) (effect-loop set.arrays l ∙ loop_effect-is set.arrays l) (fit-loop set locals l ∙ ap (λ t. record { fits = t; behind = λ bound. bound }) (fit_loop-is set locals l)) (loop_part l each))
+      (λ arms other in_arms_each in_other. as_is (stmt.If arms other) _ _ _ (walk-if set arms other) (effect-if set.arrays arms other) (fit-if set hidden arms other) (arms_part arms other in_arms_each in_other))
+      (λ l each. as_is (stmt.Loop l) _ _ _ (walk-loop set l ∙ walk_loop-is set l) (effect-loop set.arrays l ∙ loop_effect-is set.arrays l) (fit-loop set hidden l ∙ ap (λ t. record { fits = t; behind = λ bound. bound }) (fit_loop-is set hidden l)) (loop_part l each))
 
   each_part : (stmts : List Stmt) → Each StmtPart stmts
   each_part [] = tt
   each_part (s ∷ stmts) = (stmt_part s, each_part stmts)
 
   -- the turn of a body, where all that its walk meets is claimed
-  pub body_held : (body : List Stmt) (bound : List ℕ) (scalars : List ℤ) → fit_block set locals body bound false ≡ true → claimed (steps_of (walks.walk_body set body scalars))
+  pub body_held : (body : List Stmt) (bound : List ℕ) (scalars : List ℤ) → fit_block set hidden body bound false ≡ true → claimed (steps_of (walks.walk_body set body scalars))
       → held (turn_of set.arrays body scalars) (length (steps_of (walks.walk_body set body scalars)) + 0)
   body_held body bound scalars fits all =
       let start = with_zeros (locals_of body) scalars in
-      (block_part body (each_part body)).runs bound false fits start start (agree_refl set locals bound start) all (λ later. Finished) 0 (λ ending later is. tt)
+      (block_part body (each_part body)).runs bound false fits start start (agree_refl set hidden bound start) all (λ later. Finished) 0 (λ ending later is. tt)

@@ -1,6 +1,8 @@
 -- The claims of an iteration hold its turn, and the steps of its walk bound it.
-use Rattle.std.proofs.Common.{◌≡◌, ◌==◌, ℕ, zero, suc, ◌+◌, ℤ, Bool, true, false, ◌&&◌, nat_le, nat_lt, Option, List, [], ◌∷◌, length, slice_index_or, refl, sym, ap, ◌∙◌, arith, inl, inr, eq-eqb}
-use Rattle.std.proofs.lemmas.Bool.{or_left, or_right, le-leb, lt-ltb}
+use Rattle.std.proofs.Common.{◌≡◌, ◌==◌, ℕ, zero, suc, ◌+◌, ℤ, Bool, true, false, ◌&&◌, nat_le, nat_lt, ◌||◌, Option, Some, None, List, [], ◌∷◌, length, slice_get, slice_index_or, refl, sym, ap, ◌∙◌, arith, inl, inr, eq-eqb}
+use Rattle.std.specs.Option.{option_map_or, option_and_then}
+use Rattle.std.proofs.lemmas.Bool.{or_left, or_right, le-leb, lt-ltb, eqb-true}
+use Rattle.nest_syntax.specs.declared.tree.Loop.{Loop}
 use Rattle.nest_syntax.specs.declared.tree.Stmt.{Stmt}
 use Rattle.nest_syntax.specs.declared.tree.Program.{Program}
 use Rattle.nest_syntax.specs.Named.{IsWellNamed}
@@ -17,13 +19,13 @@ use Rattle.settle_law.specs.Reading.{WithinTurn, told, fixed_in}
 use Rattle.settle_law.proofs.Turns.{fixed_as_array}
 use Rattle.nest_check.specs.Kept.{KeepsRules}
 use Rattle.bound_names.specs.Meant.{HasMeaning}
-use Rattle.bound_names.specs.Uses.{opening_bindings}
+use Rattle.bound_names.specs.Uses.{Invocation, opening_bindings}
 use Rattle.bound_names.proofs.Meanings.{have_meaning}
 use Rattle.claim_walk.specs.Walk.{Step, Passes, Touches, Sweeps, Setting, same_kind, claims_word, is_claimed, claims_met, steps_of, walk_body}
 use Rattle.claim_walk.specs.Laws.{TakesAtMost, setting_of, steps_in, ClaimsHoldTurns, StepsBoundTurns, StepsAreOfLocals}
 use Rattle.claim_walk.proofs.Held.{has, Held, All, IsClaimed, more}
 use Rattle.claim_walk.proofs.Expressions.{TellsConst}
-use Rattle.claim_walk.proofs.Fits.{fit_block}
+use Rattle.claim_walk.proofs.Fits.{hidden_in, fit_block}
 use Rattle.claim_walk.proofs.Statements.{body_held}
 use Rattle.claim_walk.proofs.Ruled.{names_of, body_fits}
 use Rattle.claim_walk.proofs.Bodies.{Within, program_within, bounded_in}
@@ -88,23 +90,39 @@ module _ (sizes : List ℕ) (fixed : ℕ → Option ℤ) where
 tells_const : (arrays : List Array) (words : List ℤ) → TellsConst arrays words (fixed_in arrays words)
 tells_const arrays words array place below is = ap (λ b. told b (word_at words (word_number (sizes_of arrays) array place))) (fixed_as_array arrays array place below ∙ is)
 
+-- what is bound where a body begins is the variable of the loop that invokes it
+abbrev pub IsOpening : List Body → ℕ → List ℕ → Type 0
+IsOpening bodies n bound = (name : ℕ) → is_among bound name ≡ true → (l : Loop) × (option_and_then (λ (b : Body). b.header) (slice_get bodies n) ≡ Some l) × (l.name ≡ name)
+
+opened : (header : Option Loop) (name : ℕ) → is_among (names_of (option_map_or (λ (l : Loop). (l.name, Invocation l) ∷ []) header [])) name ≡ true → (l : Loop) × (header ≡ Some l) × (l.name ≡ name)
+opened None name is = absurd (let no : false ≡ true = is in cc)
+opened (Some l) name is = (l, refl, sym (eqb-true name l.name (or_nothing (name == l.name) is)))
+  where
+    or_nothing : (b : Bool) → (b || false) ≡ true → b ≡ true
+    or_nothing true e = refl
+    or_nothing false e = e
+
 -- a body of a program fits
 module _ (program : Program) (named : IsWellNamed program) (keeps : KeepsRules program) (words : List ℤ) (data_locals : List ℕ) where
   abbrev set : Setting
   set = setting_of program words data_locals
 
-  abbrev Fits : List Stmt → Type 0
-  Fits stmts = AreDataLocals set.arrays stmts data_locals → (bound : List ℕ) × (fit_block set (locals_of stmts) stmts bound false ≡ true)
+  abbrev pub Fits : List Body → ℕ → List Stmt → Type 0
+  Fits bodies n stmts = AreDataLocals set.arrays stmts data_locals → (bound : List ℕ) × (fit_block set (hidden_in program stmts) stmts bound false ≡ true) × IsOpening bodies n bound
 
-  one_fits : (body : Body) → HasMeaning program body → IsOne (bodies_of program) body.stmts → Within (loops_of program) body.stmts → Fits body.stmts
-  one_fits body means one within are = (names_of (opening_bindings body), body_fits program body set.arrays words data_locals are (opening_bindings body) means (bounded_in program keeps body words data_locals one within are))
+  one_fits : (body : Body) (bodies : List Body) → HasMeaning program body → IsOne (bodies_of program) body.stmts → Within (loops_of program) body.stmts → Fits (body ∷ bodies) 0 body.stmts
+  one_fits body bodies means one within are = (
+    names_of (opening_bindings body),
+    body_fits program body set.arrays words data_locals are (opening_bindings body) means (bounded_in program keeps body words data_locals one within are),
+    λ name is. opened body.header name is,
+  )
 
-  at_fits : (bodies : List Body) → Each (HasMeaning program) bodies → Each (Within (loops_of program)) (statements_of_each bodies) → ((stmts : List Stmt) → IsOne (statements_of_each bodies) stmts → IsOne (bodies_of program) stmts) → (n : ℕ) → Fits (body_at (statements_of_each bodies) n)
-  at_fits [] means within into n = λ are. ([], refl)
-  at_fits (b ∷ bodies) means within into zero = one_fits b means.0 (into b.stmts (inl refl)) within.0
+  at_fits : (bodies : List Body) → Each (HasMeaning program) bodies → Each (Within (loops_of program)) (statements_of_each bodies) → ((stmts : List Stmt) → IsOne (statements_of_each bodies) stmts → IsOne (bodies_of program) stmts) → (n : ℕ) → Fits bodies n (body_at (statements_of_each bodies) n)
+  at_fits [] means within into n = λ are. ([], refl, λ name is. absurd (let no : false ≡ true = is in cc))
+  at_fits (b ∷ bodies) means within into zero = one_fits b bodies means.0 (into b.stmts (inl refl)) within.0
   at_fits (b ∷ bodies) means within into (suc n) = at_fits bodies means.1 within.1 (λ stmts one. into stmts (inr one)) n
 
-  body_fits_at : (n : ℕ) → Fits (body_at (bodies_of program) n)
+  pub body_fits_at : (n : ℕ) → Fits (invoked_by program) n (body_at (bodies_of program) n)
   body_fits_at = at_fits (invoked_by program) (have_meaning program named keeps) (program_within program) (λ stmts one. one)
 
   holds : (body : ℕ) → AreDataLocals set.arrays (body_at (bodies_of program) body) data_locals → (scalars : List ℤ)
@@ -115,7 +133,7 @@ module _ (program : Program) (named : IsWellNamed program) (keeps : KeepsRules p
       let steps = steps_in program words data_locals body scalars in
       let claims = claims_met (sizes_of set.arrays) steps in
       more (sizes_of set.arrays) (fixed_in set.arrays words) claims (turn_of set.arrays stmts scalars) (length steps + 0) (length steps) (omega arith)
-      (body_held set (locals_of stmts) (fixed_in set.arrays words) claims (tells_const set.arrays words) stmts fits.0 scalars fits.1 (each_claimed (sizes_of set.arrays) (fixed_in set.arrays words) steps steps (λ s one. one)))
+      (body_held set (hidden_in program stmts) (fixed_in set.arrays words) claims (tells_const set.arrays words) stmts fits.0 scalars fits.1 (each_claimed (sizes_of set.arrays) (fixed_in set.arrays words) steps steps (λ s one. one)))
 
 pub claims_hold : ClaimsHoldTurns
 claims_hold program named keeps body data_locals are scalars words =

@@ -4,7 +4,7 @@
 //! and it does nothing.
 #![tactic(auto)]
 
-ghost use Rattle.claim_walk.specs.Laws.{ClaimsHoldTurns, StepsBoundTurns, WalksKeepOthers, StepsAreOfLocals};
+ghost use Rattle.claim_walk.specs.Laws.{ClaimsHoldTurns, StepsBoundTurns, WalksKeepOthers, WalksKeepNumber, StepsAreOfLocals, StepsAreOfScope, RoundsFindDataLocals};
 
 /// In a program that keeps the rules the claims of an iteration hold its turn, whatever it reads: each access to a word of
 /// a written array is claimed.
@@ -22,7 +22,23 @@ pub fn walks_keep_others()
     ensures { WalksKeepOthers }
 {}
 
+/// The walk leaves as many scalars as there were.
+pub fn walks_keep_number()
+    ensures { WalksKeepNumber }
+{}
+
 /// The walk of an iteration is told by which names are data locals, whatever list has them.
 pub fn steps_are_of_locals()
     ensures { StepsAreOfLocals }
+{}
+
+/// In such a program the walk of an iteration is told by the scalars in scope at its body, the variable of its invocation and
+/// the `const` words.
+pub fn steps_are_of_scope()
+    ensures { StepsAreOfScope }
+{}
+
+/// The data locals of a body are those that are found round by round.
+pub fn rounds_find_data_locals()
+    ensures { RoundsFindDataLocals }
 {}

@@ -1,3 +1,3 @@
-mod Belows
+pub mod Belows
 mod Meets
 mod Words

@@ -1,8 +1,8 @@
 use Rattle.std.proofs.Common.{◌≡◌, ◌<◌, ℕ, List, length, ap, sym, subst, ◌∙◌, set, true, arith}
 use Rattle.std.specs.Vec.{with_items}
 use Rattle.std.proofs.lemmas.List.{with_items_is}
-use Rattle.addr_slice.specs.WordSet.{flags_of, IsFilled}
-use Rattle.addr_slice.proofs.Sets.{length-flags_of, Puts, flags_of-put}
+use Rattle.addr_slice.specs.WordSet.{flags_of, Puts, IsFilled}
+use Rattle.addr_slice.proofs.Sets.{length-flags_of, flags_of-put}
 use Rattle.addr_slice.proofs.Filled.{filled_put}
 use Rattle.addr_slice.proofs.deep_set.DeepSet.insert.Goals as goal
 
@@ -19,13 +19,7 @@ module _ (c : goal.After-insert) where
   below = omega (arith, ap length c.self.view_is, length-flags_of c.self.inside.count c.self.inside.rows.items, c.requires)
 
   put : Puts c.self.inside.rows.items c.put_in_rows.new.rows c.args.number
-  put = subst (λ (rows : List ℕ). Puts rows c.put_in_rows.new.rows c.args.number) c.deref_mut.ensures.value record {
-    some = c.put_in_rows.ensures.some;
-    other_rows = c.put_in_rows.ensures.other_rows;
-    set_there = c.put_in_rows.ensures.set;
-    others = c.put_in_rows.ensures.others;
-    as_many = c.put_in_rows.auto.rows;
-  }
+  put = subst (λ (rows : List ℕ). Puts rows c.put_in_rows.new.rows c.args.number) c.deref_mut.ensures.value c.put_in_rows.ensures
 
   rows_are : (with_items c.self.inside.rows c.put_in_rows.new.rows).items ≡ c.put_in_rows.new.rows
   rows_are = with_items_is c.self.inside.rows c.put_in_rows.new.rows (c.put_in_rows.auto.rows ∙ c.deref_mut.ensures.len)

@@ -6,7 +6,7 @@ use Rattle.nest_syntax.specs.declared.tree.Loop.{Loop}
 use Rattle.addr_slice.specs.Claims.{no_claims, words_of, with_claims}
 use Rattle.addr_slice.specs.Walk.{Walk, walk_of_write, scalars_with}
 use Rattle.addr_slice.proofs.Parts.{invocation_of, walk-of_parts, place-allowed, value-allowed, region-is, invocation-is, parts-read}
-use Rattle.addr_slice.proofs.walk.claims.Goals as goal
+use Rattle.addr_slice.proofs.walk.first_claims.Goals as goal
 
 pub unreachable-requires-in_default-only_loop : goal.unreachable-requires-in_default-only_loop
 unreachable-requires-in_default-only_loop c =
