@@ -1,6 +1,5 @@
 ghost use Rattle.std.specs.Prelude.{◌≡◌, ◌≤◌, Some, IfOk};
 ghost use Rattle.settle_law.specs.Runs.{run};
-ghost use Rattle.progress_board.specs.Actors.{work_of};
 ghost use Rattle.cross_crew.specs.Boards.{led};
 
 use crate::board::{Board, Origin};
@@ -14,7 +13,6 @@ use std::sync::atomic::{AtomicBool, Ordering};
 use std::sync::{Mutex, Wait};
 use std::thread;
 use std::thread::Threads;
-use task_frame::work;
 
 /// Runs a machine by a thread for each of its actors, and gives it back with the history that leads to it. The machine
 /// may be in any state.
@@ -198,7 +196,7 @@ fn make_step<M: Machine, B: Origin<M>, R: Wait, G: Gate>(
     actor: u8,
     asked: Work,
 ) -> Ask {
-    match crew.give(rt, actor, done(asked)) {
+    match crew.give(rt, actor, asked.done()) {
         Ok(made) => {
             gate.between(actor, made);
             crew.ask(rt, actor)
@@ -208,15 +206,5 @@ fn make_step<M: Machine, B: Origin<M>, R: Wait, G: Gate>(
             crew.give_up();
             Ask::Ended
         }
-    }
-}
-
-// Does the work that was asked for.
-fn done(asked: Work) -> Given
-    ensures { work_of result ≡ asked }
-{
-    match asked {
-        Work::Turn(row) => Given::Turn(row),
-        Work::Hop(piece) => Given::Hop(work(piece)),
     }
 }

@@ -10,9 +10,8 @@ use Rattle.settle_law.specs.Courses as courses
 use Rattle.progress_board.specs.declared.options.Options.{Options}
 use Rattle.progress_board.specs.declared.actors.Row.{Row}
 use Rattle.progress_board.specs.declared.actors.Row.TheVariants as board
-use Rattle.progress_board.specs.declared.actors.Work.TheVariants.{Turn}
 use Rattle.progress_board.specs.declared.actors.Ask.{Ask}
-use Rattle.progress_board.specs.declared.actors.Ask.TheVariants.{Ready, NotYet, Ended}
+use Rattle.progress_board.specs.Actors.{turn_asked}
 use Rattle.progress_board.specs.declared.actors.Made.{Made}
 use Rattle.progress_board.specs.declared.facts.Ending.{Ending}
 use Rattle.progress_board.specs.declared.facts.Ending.TheVariants.{Unfinished, Done, Trapped}
@@ -92,9 +91,7 @@ has_ended engine actor = machine.ended_actor (setup_in engine) engine.state acto
 
 -- what an actor is answered, by whether its part is ended and by its move
 abbrev pub answer : Bool → Option Row_data → Ask
-answer ended (Some move) = Ready (Turn (row_of move))
-answer true None = Ended
-answer false None = NotYet
+answer = turn_asked row_of
 
 abbrev pub asked : Engine → ℕ → Ask
 asked engine actor = answer (has_ended engine actor) (move_of engine actor)

@@ -7,7 +7,7 @@ use Rattle.nest_mean.specs.Nest.{Nest}
 use Rattle.progress_board.specs.declared.options.Options.{Options}
 use Rattle.progress_board.specs.declared.actors.Row.TheVariants as board
 use Rattle.progress_board.specs.declared.actors.Work.{Work}
-use Rattle.progress_board.specs.declared.actors.Work.TheVariants.{Turn, Hop}
+use Rattle.progress_board.specs.declared.actors.Work.TheVariants.{Hop}
 use Rattle.progress_board.specs.declared.actors.Ask.TheVariants.{Ready, Ended}
 use Rattle.task_frame.specs.declared.piece.Piece.{Piece as BoardPiece}
 use Rattle.domore_machine.specs.Rows as rows
@@ -15,6 +15,7 @@ use Rattle.progress_board.specs.Options.{IsInRange}
 use Rattle.progress_board.specs.Actors.{actors_of, is_ready, asked_as, IsRowOf, SomeEnabled, AllEnded}
 use Rattle.settle_law.specs.Runs.{run}
 use Rattle.progress_board.specs.Runs.{IsReached, IsLegal}
+use Rattle.progress_board.proofs.Turns.{names_turn, asks_turn}
 use Rattle.domore_machine.specs.Machine as machine
 use Rattle.domore_machine.specs.Theorems.{IsSetupFor, Leads}
 use Rattle.domore_machine.proofs.Falls as falling
@@ -169,19 +170,8 @@ asked_row rows.Trap = refl
 asked_row rows.Drop = refl
 asked_row rows.End = refl
 
-names_move : (e : Engine) (over : Bool) (o : Option Row_data) (work : Work) → answer over o ≡ Ready work → IsRowOf work (option_map_or (made_of e) o (record { row = board.End; number = 0 })).row
-names_move e over (Some move) work is = let same : Turn (row_of move) ≡ work = cc in subst (λ w. IsRowOf w (row_of move)) same (asked_row (rows.row_of move))
-names_move e true None work is = absurd (cc)
-names_move e false None work is = absurd (cc)
-
 pub names : (e : Engine) (actor : ℕ) (work : Work) → asked e actor ≡ Ready work → IsRowOf work (made_by e actor).row
-names e actor work is = names_move e (has_ended e actor) (move_of e actor) work is
-
--- no piece is asked for
-no_piece : (over : Bool) (o : Option Row_data) (piece : BoardPiece) → answer over o ≡ Ready (Hop piece) → ⊥
-no_piece over (Some move) piece is = cc
-no_piece true None piece is = cc
-no_piece false None piece is = cc
+names e actor work is = names_turn row_of (made_of e) (record { row = board.End; number = 0 }) (λ move. asked_row (rows.row_of move)) (has_ended e actor) (move_of e actor) work is
 
 pub asks_no_piece : (e : Engine) (actor : ℕ) (piece : BoardPiece) → asked e actor ≡ Ready (Hop piece) → ⊥
-asks_no_piece e actor piece is = no_piece (has_ended e actor) (move_of e actor) piece is
+asks_no_piece e actor piece is = asks_turn row_of (has_ended e actor) (move_of e actor) piece is

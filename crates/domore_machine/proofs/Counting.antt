@@ -1,12 +1,12 @@
 -- The facts of a list of events, by what they count.
-use Rattle.std.proofs.Common.{◌≡◌, ℕ, zero, suc, ◌+◌, Bool, List, [], ◌∷◌, ◌++◌, map, take, length, refl, sym, ap, ◌∙◌, arith, append-nil, append_assoc, length-append}
+use Rattle.std.proofs.Common.{◌≡◌, ℕ, zero, suc, ◌+◌, ◌≤◌, min, Bool, List, [], ◌∷◌, ◌++◌, map, take, length, refl, sym, ap, ◌∙◌, arith, append-nil, append_assoc, length-append}
 use Rattle.std.proofs.lemmas.List.{length-map}
 use Rattle.std.proofs.lemmas.List.Sums.{sum_by-append}
 use Rattle.std.specs.List.{count_by}
 use Rattle.nest_syntax.specs.Course.{Ordinary, Header}
 use Rattle.nest_syntax.specs.Outcome.{Event, Computes, Drains, Iterates, Closes, Ends, iterations_among}
 use Rattle.domore_machine.specs.Waits.{Wait}
-use Rattle.domore_machine.specs.Facts.{WaitLine, Facts, no_facts, computed, drained, wait_line, iterated, facts_from, is_header, is_drain, wait_lines_from, FactsCount}
+use Rattle.domore_machine.specs.Facts.{WaitLine, Facts, no_facts, computed, most_drains, drained, wait_line, iterated, facts_from, is_header, is_drain, wait_lines_from, FactsCount}
 
 abbrev pub is_crossing : WaitLine → Bool
 is_crossing l = l.crossing
@@ -25,7 +25,7 @@ module _ (waits : ℕ → List Wait) where
   pub record AddsUp (k : ℕ) (facts : Facts) (prior : List WaitLine) (passed : List Event) : Type 0 where
     pub invocations : (facts_from waits k facts passed).invocations ≡ facts.invocations + count_by is_header passed
     pub iterations : (facts_from waits k facts passed).iterations ≡ facts.iterations + length (iterations_among passed)
-    pub drains : (facts_from waits k facts passed).drains ≡ facts.drains + count_by is_drain passed
+    pub drains : facts.drains ≤ most_drains → (facts_from waits k facts passed).drains ≡ min (facts.drains + count_by is_drain passed) most_drains
     pub waits_too : (facts_from waits k facts passed).waits ≡ facts.waits + length (wait_lines_from waits k facts.first passed)
     pub crossing : (facts_from waits k facts passed).crossing ≡ facts.crossing + count_by is_crossing (wait_lines_from waits k facts.first passed)
     pub first_waits : (facts_from waits k facts passed).first_waits ≡ take 64 (prior ++ wait_lines_from waits k facts.first passed)
@@ -37,23 +37,23 @@ module _ (waits : ℕ → List Wait) where
   drain_count event passed n one = sum_by-append _ (event ∷ []) passed ∙ ap (λ x. x + count_by is_drain passed) one
 
   adds_up : (k : ℕ) (facts : Facts) (prior : List WaitLine) (passed : List Event) → facts.first_waits ≡ take 64 prior → AddsUp k facts prior passed
-  adds_up k facts prior [] same = record { invocations = omega arith; iterations = omega arith; drains = omega arith; waits_too = omega arith; crossing = omega arith; first_waits = same ∙ ap (take 64) (sym (append-nil prior)) }
+  adds_up k facts prior [] same = record { invocations = omega arith; iterations = omega arith; drains = λ few. omega (arith, few); waits_too = omega arith; crossing = omega arith; first_waits = same ∙ ap (take 64) (sym (append-nil prior)) }
   adds_up k facts prior (Computes Ordinary scalars ∷ passed) same = let more = adds_up k facts prior passed same in
       let h : count_by is_header (Computes Ordinary scalars ∷ passed) ≡ 0 + count_by is_header passed = headers (Computes Ordinary scalars) passed 0 refl in
       let d : count_by is_drain (Computes Ordinary scalars ∷ passed) ≡ 0 + count_by is_drain passed = drain_count (Computes Ordinary scalars) passed 0 refl in
-      record { invocations = omega (arith, more.invocations); iterations = more.iterations; drains = omega (arith, more.drains); waits_too = more.waits_too; crossing = more.crossing; first_waits = more.first_waits }
+      record { invocations = omega (arith, more.invocations); iterations = more.iterations; drains = λ few. omega (arith, more.drains few); waits_too = more.waits_too; crossing = more.crossing; first_waits = more.first_waits }
   adds_up k facts prior (Computes Header scalars ∷ passed) same = let more = adds_up k (computed k Header facts) prior passed same in
       let h : count_by is_header (Computes Header scalars ∷ passed) ≡ 1 + count_by is_header passed = headers (Computes Header scalars) passed 1 refl in
       let d : count_by is_drain (Computes Header scalars ∷ passed) ≡ 0 + count_by is_drain passed = drain_count (Computes Header scalars) passed 0 refl in
-      record { invocations = omega (arith, more.invocations); iterations = more.iterations; drains = omega (arith, more.drains); waits_too = more.waits_too; crossing = more.crossing; first_waits = more.first_waits }
+      record { invocations = omega (arith, more.invocations); iterations = more.iterations; drains = λ few. omega (arith, more.drains few); waits_too = more.waits_too; crossing = more.crossing; first_waits = more.first_waits }
   adds_up k facts prior (Drains Ordinary scalars ∷ passed) same = let more = adds_up k (drained facts) prior passed same in
       let h : count_by is_header (Drains Ordinary scalars ∷ passed) ≡ 0 + count_by is_header passed = headers (Drains Ordinary scalars) passed 0 refl in
       let d : count_by is_drain (Drains Ordinary scalars ∷ passed) ≡ 1 + count_by is_drain passed = drain_count (Drains Ordinary scalars) passed 1 refl in
-      record { invocations = omega (arith, more.invocations); iterations = more.iterations; drains = omega (arith, more.drains); waits_too = more.waits_too; crossing = more.crossing; first_waits = more.first_waits }
+      record { invocations = omega (arith, more.invocations); iterations = more.iterations; drains = λ few. let less : min (suc facts.drains) most_drains ≤ most_drains = omega arith in omega (arith, more.drains less, d); waits_too = more.waits_too; crossing = more.crossing; first_waits = more.first_waits }
   adds_up k facts prior (Drains Header scalars ∷ passed) same = let more = adds_up k (computed k Header (drained facts)) prior passed same in
       let h : count_by is_header (Drains Header scalars ∷ passed) ≡ 1 + count_by is_header passed = headers (Drains Header scalars) passed 1 refl in
       let d : count_by is_drain (Drains Header scalars ∷ passed) ≡ 1 + count_by is_drain passed = drain_count (Drains Header scalars) passed 1 refl in
-      record { invocations = omega (arith, more.invocations); iterations = more.iterations; drains = omega (arith, more.drains); waits_too = more.waits_too; crossing = more.crossing; first_waits = more.first_waits }
+      record { invocations = omega (arith, more.invocations); iterations = more.iterations; drains = λ few. let less : min (suc facts.drains) most_drains ≤ most_drains = omega arith in omega (arith, more.drains less, d); waits_too = more.waits_too; crossing = more.crossing; first_waits = more.first_waits }
   adds_up k facts prior (Iterates body scalars ∷ passed) same =
       let new : List WaitLine = map (wait_line k facts.first) (waits k) in
       let others : List WaitLine = wait_lines_from waits (suc k) facts.first passed in
@@ -62,21 +62,21 @@ module _ (waits : ℕ → List Wait) where
       let d : count_by is_drain (Iterates body scalars ∷ passed) ≡ 0 + count_by is_drain passed = drain_count (Iterates body scalars) passed 0 refl in
       let l : length (new ++ others) ≡ length (waits k) + length others = length-append new others ∙ ap (λ x. x + length others) (length-map (waits k) (wait_line k facts.first)) in
       let c : count_by is_crossing (new ++ others) ≡ count_by is_crossing new + count_by is_crossing others = count_append new others in
-      record { invocations = omega (arith, more.invocations); iterations = omega (arith, more.iterations); drains = omega (arith, more.drains); waits_too = omega (arith, more.waits_too, l); crossing = omega (arith, more.crossing, c); first_waits = more.first_waits ∙ ap (take 64) (append_assoc prior new others) }
+      record { invocations = omega (arith, more.invocations); iterations = omega (arith, more.iterations); drains = λ few. omega (arith, more.drains few); waits_too = omega (arith, more.waits_too, l); crossing = omega (arith, more.crossing, c); first_waits = more.first_waits ∙ ap (take 64) (append_assoc prior new others) }
   adds_up k facts prior (Closes scalars ∷ passed) same = let more = adds_up k facts prior passed same in
       let h : count_by is_header (Closes scalars ∷ passed) ≡ 0 + count_by is_header passed = headers (Closes scalars) passed 0 refl in
       let d : count_by is_drain (Closes scalars ∷ passed) ≡ 0 + count_by is_drain passed = drain_count (Closes scalars) passed 0 refl in
-      record { invocations = omega (arith, more.invocations); iterations = more.iterations; drains = omega (arith, more.drains); waits_too = more.waits_too; crossing = more.crossing; first_waits = more.first_waits }
+      record { invocations = omega (arith, more.invocations); iterations = more.iterations; drains = λ few. omega (arith, more.drains few); waits_too = more.waits_too; crossing = more.crossing; first_waits = more.first_waits }
   adds_up k facts prior (Ends ∷ passed) same = let more = adds_up k facts prior passed same in
       let h : count_by is_header (Ends ∷ passed) ≡ 0 + count_by is_header passed = headers Ends passed 0 refl in
       let d : count_by is_drain (Ends ∷ passed) ≡ 0 + count_by is_drain passed = drain_count Ends passed 0 refl in
-      record { invocations = omega (arith, more.invocations); iterations = more.iterations; drains = omega (arith, more.drains); waits_too = more.waits_too; crossing = more.crossing; first_waits = more.first_waits }
+      record { invocations = omega (arith, more.invocations); iterations = more.iterations; drains = λ few. omega (arith, more.drains few); waits_too = more.waits_too; crossing = more.crossing; first_waits = more.first_waits }
 
 pub facts_count : FactsCount
 facts_count waits passed = let all = adds_up waits 0 no_facts [] passed refl in record {
   invocations = omega (arith, all.invocations);
   iterations = omega (arith, all.iterations);
-  drains = omega (arith, all.drains);
+  drains = omega (arith, all.drains (omega arith));
   waits = omega (arith, all.waits_too);
   crossing = omega (arith, all.crossing);
   first_waits = all.first_waits;

@@ -1,5 +1,5 @@
 -- What the report counts. Each event adds to it; `waits` gives the waits of an iteration by its number.
-use Rattle.std.specs.Prelude.{◌≡◌, ℕ, suc, ◌+◌, Bool, true, false, List, [], ◌∷◌, ◌++◌, map, take, length, count_by, nat_lt}
+use Rattle.std.specs.Prelude.{◌≡◌, ℕ, suc, ◌+◌, ◌-◌, ◌^◌, min, Bool, true, false, List, [], ◌∷◌, ◌++◌, map, take, length, count_by, nat_lt}
 use Rattle.nest_syntax.specs.Course.{Purpose, Ordinary, Header}
 use Rattle.nest_syntax.specs.Outcome.{Event, Computes, Drains, Iterates, Closes, Ends, iterations_among}
 use Rattle.settle_law.specs.Courses.{Nest, events}
@@ -31,8 +31,12 @@ abbrev pub computed : ℕ → Purpose → Facts → Facts
 computed next Ordinary facts = facts
 computed next Header facts = record facts { invocations = suc facts.invocations; first = next }
 
+-- The most drains that are told: the count stays there. How many tests there are nothing bounds, so neither are drains.
+abbrev pub most_drains : ℕ
+most_drains = 2 ^ 64 - 1
+
 abbrev pub drained : Facts → Facts
-drained facts = record facts { drains = suc facts.drains }
+drained facts = record facts { drains = min (suc facts.drains) most_drains }
 
 -- a wait of iteration k, where the first iteration of its invocation is `first`
 abbrev pub wait_line : ℕ → ℕ → Wait → WaitLine
@@ -101,7 +105,7 @@ wait_lines_from waits k first (Ends ∷ others) = wait_lines_from waits k first 
 pub record AreOf (waits_at : ℕ → List Wait) (passed : List Event) (facts : Facts) : Type 0 where
   pub invocations : facts.invocations ≡ count_by is_header passed
   pub iterations : facts.iterations ≡ length (iterations_among passed)
-  pub drains : facts.drains ≡ count_by is_drain passed
+  pub drains : facts.drains ≡ min (count_by is_drain passed) most_drains
   pub waits : facts.waits ≡ length (wait_lines_from waits_at 0 0 passed)
   pub crossing : facts.crossing ≡ count_by (λ (l : WaitLine). l.crossing) (wait_lines_from waits_at 0 0 passed)
   pub first_waits : facts.first_waits ≡ take 64 (wait_lines_from waits_at 0 0 passed)

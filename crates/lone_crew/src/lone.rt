@@ -1,12 +1,11 @@
 ghost use Rattle.std.specs.Prelude.{◌≡◌, ◌+◌, ◌<◌, ◌≤◌, true, ◌++◌, length, vec_len, vec_capacity, IfOk, OnOk, OnErr};
-ghost use Rattle.progress_board.specs.Actors.{actors_of, work_of};
+ghost use Rattle.progress_board.specs.Actors.{actors_of};
 ghost use Rattle.progress_board.specs.Runs.{IsLegal, Agrees};
 ghost use Rattle.progress_board.specs.Rotation.{up_to, rounds, rotation, GoesOn, StopsIn};
 ghost use Rattle.lone_crew.specs.Turns.{Looked, Rotates};
 
 use nest_syntax::NoMemory;
-use progress_board::{Ask, Given, Machine, Work};
-use task_frame::work;
+use progress_board::{Ask, Machine};
 
 /// Drives a machine to its end, on the caller's thread.
 ///
@@ -131,19 +130,9 @@ fn look<M: Machine>(machine: &mut M, actor: u8, history: &mut Vec<u8>) -> Result
         return Ok(false);
     };
     history.reserve(1)?;
-    let Ok(_made) = machine.give(actor, done(asked)) else {
+    let Ok(_made) = machine.give(actor, asked.done()) else {
         unreachable!();
     };
     history.push(actor).unwrap();
     Ok(true)
-}
-
-// Does the work that was asked for.
-fn done(asked: Work) -> Given
-    ensures { work_of result ≡ asked }
-{
-    match asked {
-        Work::Turn(row) => Given::Turn(row),
-        Work::Hop(piece) => Given::Hop(work(piece)),
-    }
 }

@@ -2,3 +2,4 @@ pub mod Runs
 pub mod Rotation
 pub mod Measures
 pub mod Legal
+pub mod Turns

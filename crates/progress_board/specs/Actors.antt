@@ -1,5 +1,5 @@
 -- What actors ask and give. An actor is its number: workers from 0, then the scheduler, then the checker.
-use Rattle.std.specs.Prelude.{◌≡◌, ℕ, ◌+◌, ◌<◌, ◌⊎◌, Bool, true, false, Option, IsSome}
+use Rattle.std.specs.Prelude.{◌≡◌, ℕ, ◌+◌, ◌<◌, ◌⊎◌, Bool, true, false, Option, Some, None, IsSome}
 use Rattle.task_hop.specs.declared.stop.Stop.{Stop}
 use Rattle.task_hop.specs.declared.stop.Stop.TheVariants as stop
 use Rattle.task_frame.specs.Pieces.{reached}
@@ -40,6 +40,13 @@ IsRowAt (stop.Trap cause line) made = made ≡ row.Trap
 abbrev pub IsRowOf : Work → Row → Type 0
 IsRowOf (work.Turn asked) made = asked_as made ≡ asked
 IsRowOf (work.Hop piece) made = IsRowAt (reached piece).stop made
+
+-- the answer to an actor of a machine that makes all its rows by itself, by whether the actor's part is ended and by its
+-- move
+abbrev pub turn_asked : {M : Type 0} → (M → Row) → Bool → Option M → Ask
+turn_asked row_of ended (Some move) = Ready (work.Turn (row_of move))
+turn_asked row_of true None = Ended
+turn_asked row_of false None = NotYet
 
 -- whether an answer hands out work
 abbrev pub is_ready : Ask → Bool

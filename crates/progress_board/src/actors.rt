@@ -2,7 +2,7 @@ ghost use Rattle.std.specs.Prelude.{◌≡◌, ◌↔◌, IsTrue};
 ghost use Rattle.progress_board.specs.declared.actors.Ask.TheVariants.{Ready};
 ghost use Rattle.progress_board.specs.Actors.{work_of};
 
-use task_frame::{Piece, Worked};
+use task_frame::{Piece, Worked, work};
 
 /// A row of an engine's step table: what one step does.
 #[derive(Clone, Copy, Debug, PartialEq, Eq)]
@@ -55,6 +55,18 @@ pub enum Ask {
 pub enum Given {
     Turn(Row),
     Hop(Worked),
+}
+
+impl Work {
+    /// Does the work. It takes no memory, and a constant time for each operation of a piece.
+    pub fn done(self) -> Given
+        ensures { work_of result ≡ self }
+    {
+        match self {
+            Work::Turn(row) => Given::Turn(row),
+            Work::Hop(piece) => Given::Hop(work(piece)),
+        }
+    }
 }
 
 impl Ask {

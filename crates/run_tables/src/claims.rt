@@ -3,7 +3,7 @@ ghost use Rattle.nest_syntax.specs.FirstForm.{IsFirstForm};
 
 use crate::jobs::first_job;
 use crate::nests::{FIRST, SHIFTED};
-use addr_slice::{Claims, claims};
+use addr_slice::{Claims, first_claims};
 use nest_mean::Job;
 use nest_syntax::{NoMemory, Program};
 use std::alloc::{AllocError, Global};
@@ -37,7 +37,7 @@ fn claimed(alloc: Global, job: &Job, outer: i64, inner: i64) -> Result<Claims, N
     requires { IsFirstForm job.now.program }
 {
     let mut into = Claims::with_room(alloc, job.checked().lengths())?;
-    claims(program_of(job), outer, inner, &mut into);
+    first_claims(program_of(job), outer, inner, &mut into);
     Ok(into)
 }
 

@@ -2,13 +2,14 @@
 use Rattle.std.proofs.Common.{◌≡◌, ℕ, ◌+◌, ◌*◌, ◌^◌, ◌<◌, ◌≤◌, ℤ, Option, Some, None, Result, Ok, Err, List, [], map, length, slice_get, refl, sym, ap, ◌∙◌, subst, arith}
 use Rattle.std.specs.Prelude.{IfSome}
 use Rattle.std.specs.List.{flat_map}
+use Rattle.std.specs.Option.{option_map, option_and_then, option_map_or}
 use Rattle.nest_syntax.specs.declared.place.Place.{Place}
 use Rattle.nest_syntax.specs.declared.tree.Loop.{Loop}
 use Rattle.nest_syntax.specs.declared.tree.Program.{Program}
 use Rattle.nest_syntax.specs.Named.{IsWellNamed}
 use Rattle.nest_syntax.specs.Words.{most_turns}
 use Rattle.nest_syntax.specs.Arrays.{arrays_of}
-use Rattle.nest_syntax.specs.Shape.{bodies_of}
+use Rattle.nest_syntax.specs.Shape.{Body, invoked_by, bodies_of}
 use Rattle.nest_syntax.specs.Course.{Setting, in_order, region_of, setting_of}
 use Rattle.nest_syntax.specs.Course as course
 use Rattle.nest_syntax.proofs.Shapes.{regions_same}
@@ -24,7 +25,7 @@ use Rattle.sched_cursor.specs.Events.{after_event, as_answer, placed, behind_inv
 use Rattle.sched_cursor.specs.Doings.{doings_in_region, runs, AreTold}
 use Rattle.sched_cursor.specs.Rooms.{MostOf, by_end, HasRoom, outside}
 use Rattle.sched_cursor.specs.Scripts.{FollowsIn, PutsRegion}
-use Rattle.sched_cursor.specs.Handed.{NumbersNames, AtTells, Tells, naming_of}
+use Rattle.sched_cursor.specs.Handed.{loop_of_body, variable_with_step, NumbersNames, AtTells, Tells, naming_of}
 use Rattle.sched_cursor.specs.Laws.{IsCursorOf, before_entry, restarted, CursorsStay}
 use Rattle.sched_cursor.proofs.Growing.{more_of}
 use Rattle.sched_cursor.proofs.Handing.{Stays, StaysOk, stays_after, stays_behind, TellsOk, tells_after, tells_behind_invocation}
@@ -94,11 +95,48 @@ starts_with program regions old nodes count first entry scalars names c named ke
 pub inside_few : (program : Program) (c : Cursor) (i : Invocation) → c.at ≡ at.Inside i → IsCursorOf program c → (i.turning.turn ≤ i.turning.trips) × (i.turning.trips ≤ most_turns) × (i.body < length (bodies_of program))
 inside_few program c i at_is is = let tells : AtTells (naming_of program) (at.Inside i) = subst (AtTells (naming_of program)) at_is is.tells.at in (tells.turned, tells.few, tells.body)
 
+-- the loop of its body has its step
+abbrev name_and_step : Loop → ℕ × ℕ
+name_and_step l = (l.name, l.step)
+
+abbrev stepping : ℕ → ℕ → ℕ × ℕ
+stepping step name = (name, step)
+
+told_of_loop : (program : Program) (body : ℕ) → variable_with_step program body ≡ option_map name_and_step (loop_of_body program body)
+told_of_loop program body = by (slice_get (invoked_by program) body)
+  where
+    by : (found : Option Body) → option_and_then (λ (b : Body). option_map name_and_step b.header) found ≡ option_map name_and_step (option_and_then (λ (b : Body). b.header) found)
+    by None = refl
+    by (Some b) = refl
+
+inside_told : (program : Program) (c : Cursor) (i : Invocation) → c.at ≡ at.Inside i → IsCursorOf program c → (l : Option Loop) → loop_of_body program i.body ≡ l → option_map name_and_step l ≡ option_map (stepping i.turning.step) i.name
+inside_told program c i at_is is l there =
+    let tells : AtTells (naming_of program) (at.Inside i) = subst (AtTells (naming_of program)) at_is is.tells.at in
+    ap (option_map name_and_step) (sym there) ∙ sym (told_of_loop program i.body) ∙ tells.variable
+
+inside_steps : (program : Program) (c : Cursor) (i : Invocation) → c.at ≡ at.Inside i → IsCursorOf program c → (l : Loop) → loop_of_body program i.body ≡ Some l → i.turning.step ≡ l.step
+inside_steps program c i at_is is l there = by i.name (inside_told program c i at_is is (Some l) there)
+  where
+    by : (name : Option ℕ) → Some (name_and_step l) ≡ option_map (stepping i.turning.step) name → i.turning.step ≡ l.step
+    by None e = absurd cc
+    by (Some n) e = sym (ap (λ (o : Option (ℕ × ℕ)). option_map_or (λ (v : ℕ × ℕ). v.1) o 0) e)
+
+inside_alone : (program : Program) (c : Cursor) (i : Invocation) → c.at ≡ at.Inside i → IsCursorOf program c → loop_of_body program i.body ≡ None → i.turning.trips ≤ 1
+inside_alone program c i at_is is there =
+    let tells : AtTells (naming_of program) (at.Inside i) = subst (AtTells (naming_of program)) at_is is.tells.at in
+    tells.alone (by i.name (inside_told program c i at_is is None there))
+  where
+    by : (name : Option ℕ) → None ≡ option_map (stepping i.turning.step) name → name ≡ None
+    by None e = refl
+    by (Some n) e = absurd cc
+
 pub cursors_stay : CursorsStay
 cursors_stay = record {
   behind_events = λ program words c later is moved. goes_on program words c later None is (sym (ap (placed c.next) moved)) tt;
   behind_invocations = goes_past;
   at_start = goes_back;
   passed = λ program c is. room_passed c is.room;
+  steps = inside_steps;
+  alone = inside_alone;
   entered = inside_few;
 }

@@ -31,7 +31,7 @@ doings-if arms other =
     ap doings (sym (rolls-If arms other)) ∙ fold-roll-Stmt Does Does Does doings_node arm_doings_node loop_doings_node (Stmt-F.If arms other)
     ∙ (λ i. flat_map-map (λ (ds : Does). ds) doings_in_arm arms i ++ flat_map-map (λ (ds : Does). ds) doings other i)
 
-pub doings-loop : (l : Loop) → doings (stmt.Loop l) ≡ Runs (Some l.name) ∷ []
+pub doings-loop : (l : Loop) → doings (stmt.Loop l) ≡ Runs (Some (l.name, l.step)) ∷ []
 doings-loop l =
     ap doings (sym (rolls-Loop l)) ∙ fold-roll-Stmt Does Does Does doings_node arm_doings_node loop_doings_node (Stmt-F.Loop l)
     ∙ fold_out-Loop Does Does Does doings_node arm_doings_node loop_doings_node l

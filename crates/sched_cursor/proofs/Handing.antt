@@ -1,15 +1,17 @@
 -- What a cursor hands out at an iteration is the course's iteration.
 use Rattle.std.proofs.Common.{◌≡◌, ℕ, suc, ◌+◌, ◌<◌, ◌≤◌, ℤ, pos, Bool, true, false, nat_lt, nat_le, if◌then◌else◌, is_some, Option, Some, None, Result, Ok, Err, List, [], ◌∷◌, map, length, slice_get, slice_index_or, refl, sym, ap, ◌∙◌, subst, arith, get_or}
 use Rattle.std.specs.List.{list_any, range_with_len}
-use Rattle.std.specs.Option.{option_map_or}
+use Rattle.std.specs.Option.{option_map, option_and_then, option_map_or}
 use Rattle.std.proofs.lemmas.Bool.{ltb-true, ltb-false, leb-true}
 use Rattle.std.proofs.lemmas.List.{get_or-set_other, get_or_past, length-set, get_or-map}
 use Rattle.nest_syntax.specs.declared.names.Line.{Line}
 use Rattle.nest_syntax.specs.declared.operators.Cause.{Cause}
+use Rattle.nest_syntax.specs.declared.tree.Loop.{Loop}
 use Rattle.nest_syntax.specs.declared.tree.Program.{Program}
 use Rattle.nest_syntax.specs.declared.operators.Cause.TheVariants as cause
 use Rattle.nest_syntax.specs.Words.{is_zero, turns, counted, most_turns}
 use Rattle.nest_syntax.specs.Arrays.{Array}
+use Rattle.nest_syntax.specs.Shape.{Body, invoked_by}
 use Rattle.nest_syntax.specs.Value.{value, and_then, scalar_at, with_scalar, names_written}
 use Rattle.nest_syntax.specs.Course.{Course}
 use Rattle.nest_syntax.specs.Course as course
@@ -32,7 +34,7 @@ use Rattle.sched_cursor.specs.Steps.{exprs_of, line_of, turning_of, changed, ste
 use Rattle.sched_cursor.specs.Cursor.{Cursor, standing}
 use Rattle.sched_cursor.specs.Events.{stepped, at_line, after_found, after_at, after_event, kind_found, purpose_found, event_of, event_when, plain_event_when, env_of, value_of, handed_at, handed_in, iteration_at, behind_invocation}
 use Rattle.sched_cursor.specs.Doings.{Naming, NodeTells}
-use Rattle.sched_cursor.specs.Handed.{told_at, told, what_of, variable_of_body, NumbersNames, naming_of, AtTells, Tells}
+use Rattle.sched_cursor.specs.Handed.{told_at, told, what_of, variable_of_body, variable_with_step, NumbersNames, naming_of, AtTells, Tells}
 
 -- a list by its values
 by_values : (xs : List ℤ) (f : ℕ → ℤ) (a : ℕ) → ((n : ℕ) → n < length xs → get_or xs n (pos 0) ≡ f (a + n)) → xs ≡ map f (range_with_len a (length xs))
@@ -53,6 +55,25 @@ within_some names n name is = by (nat_lt n (length names)) refl
     by true inside = ltb-true n (length names) inside
     by false outside = let past = get_or_past names n None (ltb-false n (length names) outside) in absurd (let clash = sym past ∙ is in cc)
 
+-- the variable of an invocation is that of its body
+variable_only : (program : Program) (body : ℕ) → option_map (λ (v : ℕ × ℕ). v.0) (variable_with_step program body) ≡ variable_of_body program body
+variable_only program body = by (slice_get (invoked_by program) body)
+  where
+    named : (header : Option Loop) → option_map (λ (v : ℕ × ℕ). v.0) (option_map (λ (l : Loop). (l.name, l.step)) header) ≡ option_map (λ (l : Loop). l.name) header
+    named None = refl
+    named (Some l) = refl
+
+    by : (found : Option Body) → option_map (λ (v : ℕ × ℕ). v.0) (option_and_then (λ (b : Body). option_map (λ (l : Loop). (l.name, l.step)) b.header) found) ≡ option_and_then (λ (b : Body). option_map (λ (l : Loop). l.name) b.header) found
+    by None = refl
+    by (Some b) = named b.header
+
+pub variable_told : (program : Program) (i : Invocation) → variable_with_step program i.body ≡ option_map (λ name. (name, i.turning.step)) i.name → variable_of_body program i.body ≡ i.name
+variable_told program i is = sym (variable_only program i.body) ∙ ap (option_map (λ (v : ℕ × ℕ). v.0)) is ∙ by i.name
+  where
+    by : (name : Option ℕ) → option_map (λ (v : ℕ × ℕ). v.0) (option_map (λ n. (n, i.turning.step)) name) ≡ name
+    by None = refl
+    by (Some n) = refl
+
 -- the scalars by their numbers tell the scalars, where no others have a value
 module _ (program : Program) (c : Cursor) (numbers : NumbersNames program c.names) (tells : Tells (naming_of program) c) where
   told_one : (name : ℕ) → name < length program.names → scalar_at c.scalars name ≡ told_at program (env_of c) name
@@ -69,7 +90,7 @@ module _ (program : Program) (c : Cursor) (numbers : NumbersNames program c.name
       ap (λ n. map (told_at program (env_of c)) (range_with_len 0 n)) (sym tells.many)
       ∙ sym (by_values c.scalars (told_at program (env_of c)) 0 (λ n inside. let at : n ≡ 0 + n = omega arith in told_one n (omega (arith, tells.many, inside)) ∙ ap (told_at program (env_of c)) at))
 
-  told_inside : (i : Invocation) → (naming_of program).variable i.body ≡ i.name → what_of program (handed_in c i i.turning.turn) ≡ iteration_at c (at.Inside i)
+  pub told_inside : (i : Invocation) → variable_of_body program i.body ≡ i.name → what_of program (handed_in c i i.turning.turn) ≡ iteration_at c (at.Inside i)
   told_inside i is =
       ap (λ (scalars : List ℤ). let b : ℕ × List ℤ = (i.body, option_map_or (λ name. with_scalar scalars name (variable_of i.turning)) (variable_of_body program i.body) scalars) in b) told_all
       ∙ ap (λ (name : Option ℕ). let b : ℕ × List ℤ = (i.body, option_map_or (λ n. with_scalar c.scalars n (variable_of i.turning)) name c.scalars) in b) is
@@ -108,7 +129,7 @@ module _ (program : Program) (arrays : List Array) (words : List ℤ) where
   told_event c (at.Before (next.Node n)) numbers tells told = same_found c n (slice_get c.nodes n)
   told_event c (at.Before next.Turn) numbers tells told = refl
   told_event c (at.Before next.End) numbers tells told = refl
-  told_event c (at.Inside i) numbers tells told = told_turn c i (told_inside program c numbers tells i told.variable)
+  told_event c (at.Inside i) numbers tells told = told_turn c i (told_inside program c numbers tells i (variable_told program i told.variable))
 
 -- a loop that is entered is before its first turn, and has few
 few_counted : (n m : ℕ) → counted n ≡ Ok m → m ≤ 16777216
@@ -134,6 +155,26 @@ few_turns arrays h scalars words = by_low (value arrays scalars words h.low)
     by_high low (Err cause) = tt
 
     by_low : (r : Result ℤ Cause) → FewTurns (and_then r (λ low. and_then (value arrays scalars words h.high) (λ high. and_then (counted (turns low high h.step h.through)) (λ trips. Ok (begun low h.step trips)))))
+    by_low (Ok low) = by_high low (value arrays scalars words h.high)
+    by_low (Err cause) = tt
+
+-- and has the step of its header
+abbrev StepsBy : ℕ → Result Turning Cause → Type 0
+StepsBy step (Ok turning) = turning.step ≡ step
+StepsBy step (Err cause) = Unit {0}
+
+steps_by : (arrays : List Array) (h : Header) (scalars words : List ℤ) → StepsBy h.step (turning_of arrays h scalars words)
+steps_by arrays h scalars words = by_low (value arrays scalars words h.low)
+  where
+    by_count : (low : ℤ) (r : Result ℕ Cause) → StepsBy h.step (and_then r (λ trips. Ok (begun low h.step trips)))
+    by_count low (Ok trips) = refl
+    by_count low (Err cause) = tt
+
+    by_high : (low : ℤ) (r : Result ℤ Cause) → StepsBy h.step (and_then r (λ high. and_then (counted (turns low high h.step h.through)) (λ trips. Ok (begun low h.step trips))))
+    by_high low (Ok high) = by_count low (counted (turns low high h.step h.through))
+    by_high low (Err cause) = tt
+
+    by_low : (r : Result ℤ Cause) → StepsBy h.step (and_then r (λ low. and_then (value arrays scalars words h.high) (λ high. and_then (counted (turns low high h.step h.through)) (λ trips. Ok (begun low h.step trips)))))
     by_low (Ok low) = by_high low (value arrays scalars words h.high)
     by_low (Err cause) = tt
 
@@ -173,12 +214,12 @@ module _ (naming : Naming) where
         by : (r : Result ℤ Cause) → TellsOk (at_line line (and_then (and_then r (λ v. Ok (step.Go (if is_zero v then otherwise else taken)))) (λ made. Ok (stepped c made))))
         by (Ok v) = stands (at.Before (if is_zero v then otherwise else taken)) tt
         by (Err cause) = tt
-    tells_node (node.Invoke header body behind) is = by (turning_of arrays header c.scalars words) (few_turns arrays header c.scalars words)
+    tells_node (node.Invoke header body behind) is = by (turning_of arrays header c.scalars words) (few_turns arrays header c.scalars words) (steps_by arrays header c.scalars words)
       where
-        by : (r : Result Turning Cause) → FewTurns r → TellsOk (at_line header.line (and_then (and_then r (λ turning. Ok (step.Invoke (record { body = body; name = Some header.name; turning = turning; next = behind })))) (λ made. Ok (stepped c made))))
-        by (Ok turning) few = stands (at.Inside (record { body = body; name = Some header.name; turning = turning; next = behind })) (record { variable = is.0; body = is.1; turned = few.0; few = few.1 })
-        by (Err cause) few = tt
-    tells_node (node.Write line body behind) is = stands (at.Inside (record { body = body; name = None; turning = begun (pos 0) 1 1; next = behind })) (record { variable = is.0; body = is.1; turned = omega arith; few = omega arith })
+        by : (r : Result Turning Cause) → FewTurns r → StepsBy header.step r → TellsOk (at_line header.line (and_then (and_then r (λ turning. Ok (step.Invoke (record { body = body; name = Some header.name; turning = turning; next = behind })))) (λ made. Ok (stepped c made))))
+        by (Ok turning) few steps = stands (at.Inside (record { body = body; name = Some header.name; turning = turning; next = behind })) (record { variable = is.0 ∙ ap (λ n. Some (header.name, n)) (sym steps); body = is.1; turned = few.0; few = few.1; alone = λ none. absurd cc })
+        by (Err cause) few steps = tt
+    tells_node (node.Write line body behind) is = stands (at.Inside (record { body = body; name = None; turning = begun (pos 0) 1 1; next = behind })) (record { variable = is.0; body = is.1; turned = omega arith; few = omega arith; alone = λ none. omega arith })
 
     tells_found : (n : ℕ) (found : Option Node) → slice_get c.nodes n ≡ found → TellsOk (after_found arrays c words found)
     tells_found n None is = tells
@@ -200,7 +241,7 @@ module _ (naming : Naming) where
       many = tells.many;
       others = tells.others;
       region = tells.region;
-      at = record { variable = told.variable; body = told.body; turned = omega (arith, ltb-true i.turning.turn i.turning.trips has); few = told.few };
+      at = record { variable = told.variable; body = told.body; turned = omega (arith, ltb-true i.turning.turn i.turning.trips has); few = told.few; alone = told.alone };
     }
     tells_iteration i told false has = stands (at.Before i.next) tt
 

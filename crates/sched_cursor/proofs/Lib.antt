@@ -14,3 +14,4 @@ pub mod Filling
 pub mod Counting
 pub mod Fixed
 pub mod Inside
+pub mod Given

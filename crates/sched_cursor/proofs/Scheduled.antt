@@ -1,5 +1,5 @@
 -- What the rules say of the items: a name that is set among them is that of a scheduler scalar. And each body has the
--- variable of its invocation.
+-- variable and the step of its invocation.
 use Rattle.std.proofs.Common.{◌≡◌, ℕ, zero, suc, ◌+◌, ◌<◌, ℤ, pos, true, false, is_some, ◌||◌, eq-eqb, Option, Some, List, [], ◌∷◌, ◌++◌, map, length, replicate, slice_get, refl, sym, ap, ◌∙◌, subst, arith}
 use Rattle.std.specs.List.{flat_map}
 use Rattle.std.specs.Option.{option_map, option_and_then}
@@ -37,7 +37,7 @@ use Rattle.body_names.proofs.Programs.{is_inner}
 use Rattle.bound_names.proofs.Outside.{Outside, IsScalars, has_left, has_right, stays_outside, regions_declared, declared_outside, scalar_some}
 use Rattle.sched_cursor.specs.Doings.{Doing, Sets, Runs, doings, doings_in_arm, doings_of, doings_in_region, AreTold, NodesTell}
 use Rattle.sched_cursor.specs.Cursor.{Cursor}
-use Rattle.sched_cursor.specs.Handed.{variable_of_body, naming_of, Tells}
+use Rattle.sched_cursor.specs.Handed.{variable_with_step, naming_of, Tells}
 use Rattle.sched_cursor.specs.Laws.{restarted}
 use Rattle.sched_cursor.proofs.Doings.{doings-declare, doings-assign, doings-write, doings-if, doings-loop, doings_in_arm-is}
 
@@ -147,11 +147,11 @@ module _ (program : Program) where
   numbered : (name : ℕ) → has_name (scheduler_scalars program) name ≡ true → is_some (scalar_of program name) ≡ true
   numbered name there = ap is_some (scalar_some program name there).1
 
-  -- the bodies that are run, with their variables
-  abbrev header_name : Body → Option ℕ
-  header_name b = option_map (λ (l : Loop). l.name) b.header
+  -- the bodies that are run, with their variables and steps
+  abbrev header_name : Body → Option (ℕ × ℕ)
+  header_name b = option_map (λ (l : Loop). (l.name, l.step)) b.header
 
-  abbrev variables : List Doing → List (Option ℕ)
+  abbrev variables : List Doing → List (Option (ℕ × ℕ))
   variables [] = []
   variables (Sets name ∷ ds) = variables ds
   variables (Runs variable ∷ ds) = variable ∷ variables ds
@@ -181,7 +181,7 @@ module _ (program : Program) where
       let here : variables (doings_in_arm a) ≡ map header_name (invoked_in (items_in_arm a)) = ap variables (doings_in_arm-is a) ∙ same_block a.body each.0 ∙ ap (λ es. map header_name (invoked_in es)) (sym (items_in_arm-is a)) in
       variables_both (doings_in_arm a) (flat_map doings_in_arm arms) ∙ (λ i. here i ++ same_arms arms each.1 i) ∙ sym (invoked_both (items_in_arm a) (flat_map items_in_arm arms))
 
-  abbrev header_names : List Entry → List (Option ℕ)
+  abbrev header_names : List Entry → List (Option (ℕ × ℕ))
   header_names es = map header_name (invoked_in es)
 
   same : (s : Stmt) → Same s
@@ -210,7 +210,7 @@ module _ (program : Program) where
 
   -- all is told
   told_from : (ds : List Doing) (first : ℕ) → Each IsSet ds
-      → ((n : ℕ) (v : Option ℕ) → slice_get (variables ds) n ≡ Some v → ((naming_of program).variable (first + n) ≡ v) × (first + n < (naming_of program).bodies)) → AreTold (naming_of program) first ds
+      → ((n : ℕ) (v : Option (ℕ × ℕ)) → slice_get (variables ds) n ≡ Some v → ((naming_of program).variable (first + n) ≡ v) × (first + n < (naming_of program).bodies)) → AreTold (naming_of program) first ds
   told_from [] first set there = tt
   told_from (Sets name ∷ ds) first set there = (numbered name set.0, told_from ds first set.1 there)
   told_from (Runs variable ∷ ds) first set there =
@@ -223,11 +223,11 @@ module _ (program : Program) where
             (subst (λ k. (naming_of program).variable k ≡ v) on rest.0, subst (λ k. k < (naming_of program).bodies) on rest.1)),
       )
 
-  at_body : (bodies : List Body) (n : ℕ) (v : Option ℕ) → slice_get (map header_name bodies) n ≡ Some v → (option_and_then header_name (slice_get bodies n) ≡ v) × (n < length bodies)
+  at_body : (bodies : List Body) (n : ℕ) (v : Option (ℕ × ℕ)) → slice_get (map header_name bodies) n ≡ Some v → (option_and_then header_name (slice_get bodies n) ≡ v) × (n < length bodies)
   at_body [] n v is = absurd cc
   at_body (b ∷ bodies) zero v is = (some_of (header_name b) v is, omega arith)
     where
-      some_of : (x y : Option ℕ) → Some x ≡ Some y → x ≡ y
+      some_of : (x y : Option (ℕ × ℕ)) → Some x ≡ Some y → x ≡ y
       some_of x y e = cc
   at_body (b ∷ bodies) (suc n) v is = let rest = at_body bodies n v is in (rest.0, omega (arith, rest.1))
 
@@ -237,7 +237,7 @@ module _ (program : Program) where
       let there = at_body (invoked_by program) n v (sym (ap (λ vs. slice_get vs n) (same_regions program.regions)) ∙ is) in
       let many : length (bodies_of program) ≡ length (invoked_by program) = length-map (invoked_by program) (λ (b : Body). b.stmts) in
       let at : n ≡ 0 + n = omega arith in
-      (subst (λ k. variable_of_body program k ≡ v) at there.0, omega (arith, there.1, many)))
+      (subst (λ k. variable_with_step program k ≡ v) at there.0, omega (arith, there.1, many)))
 
   -- the scalars as the regions begin
   declared_tell : (decls : List Decl) (scalars : List ℤ) → ((name : ℕ) → has_name (scalars_in decls) name ≡ true → is_some (scalar_of program name) ≡ true) → length scalars ≡ length program.names

@@ -16,9 +16,17 @@ use Rattle.sched_cursor.specs.Turning.{has_turn}
 use Rattle.sched_cursor.specs.Cursor.{Cursor}
 use Rattle.sched_cursor.specs.Doings.{Naming, NodesTell}
 
+-- the loop that invokes a body, by the number of the body, none where it is an array statement
+abbrev pub loop_of_body : Program → ℕ → Option Loop
+loop_of_body program body = option_and_then (λ (b : Body). b.header) (slice_get (invoked_by program) body)
+
 -- the variable of a body's invocation, by the number of the body
 abbrev pub variable_of_body : Program → ℕ → Option ℕ
 variable_of_body program body = option_and_then (λ (b : Body). option_map (λ (l : Loop). l.name) b.header) (slice_get (invoked_by program) body)
+
+-- the same with the step of the invocation
+abbrev pub variable_with_step : Program → ℕ → Option (ℕ × ℕ)
+variable_with_step program body = option_and_then (λ (b : Body). option_map (λ (l : Loop). (l.name, l.step)) b.header) (slice_get (invoked_by program) body)
 
 -- the value that the scalars of the scheduler, by their numbers, tell of a name
 abbrev pub told_at : Program → List ℤ → ℕ → ℤ
@@ -42,16 +50,17 @@ naming_of program = record {
   names = length program.names;
   scheduled = λ name. is_some (scalar_of program name);
   bodies = length (bodies_of program);
-  variable = variable_of_body program;
+  variable = variable_with_step program;
 }
 
 -- The script, the scalars, the region and the invocation of a cursor agree with the names of a program: a scalar that isn't
 -- one of the scheduler's is 0.
 pub record InvocationTells (naming : Naming) (i : Invocation) : Type 0 where
-  pub variable : naming.variable i.body ≡ i.name
+  pub variable : naming.variable i.body ≡ option_map (λ name. (name, i.turning.step)) i.name
   pub body : i.body < naming.bodies
   pub turned : i.turning.turn ≤ i.turning.trips
   pub few : i.turning.trips ≤ most_turns
+  pub alone : i.name ≡ None → i.turning.trips ≤ 1
 
 abbrev pub AtTells : Naming → At → Type 0
 AtTells naming (at.Before next) = Unit {0}

@@ -1,5 +1,6 @@
 -- A cursor and the course of its program.
-use Rattle.std.specs.Prelude.{◌≡◌, ℕ, zero, suc, ◌+◌, ◌-◌, ◌^◌, ◌<◌, ◌≤◌, ℤ, pos, true, false, if◌then◌else◌, Option, Some, Ok, List, map, length}
+use Rattle.std.specs.Prelude.{◌≡◌, ℕ, zero, suc, ◌+◌, ◌-◌, ◌^◌, ◌<◌, ◌≤◌, ℤ, pos, true, false, if◌then◌else◌, Option, Some, None, Ok, List, map, length}
+use Rattle.nest_syntax.specs.declared.tree.Loop.{Loop}
 use Rattle.nest_syntax.specs.declared.tree.Program.{Program}
 use Rattle.nest_syntax.specs.Words.{most_turns}
 use Rattle.nest_syntax.specs.Arrays.{Array, arrays_of}
@@ -22,7 +23,7 @@ use Rattle.sched_cursor.specs.Cursor.{Cursor}
 use Rattle.sched_cursor.specs.Events.{event_at, after_event, kind_of, behind_invocation, handed_in, is_of_invocation, is_iteration}
 use Rattle.sched_cursor.specs.Rooms.{MostOf, HasRoom}
 use Rattle.sched_cursor.specs.Scripts.{FollowsIn}
-use Rattle.sched_cursor.specs.Handed.{NumbersNames, Tells, naming_of, what_of}
+use Rattle.sched_cursor.specs.Handed.{NumbersNames, Tells, naming_of, loop_of_body, what_of}
 
 -- The script of a cursor is that of a program: from its entry on, its nodes are followed as the program's regions are.
 abbrev pub IsScriptOf : Program → Cursor → Type 0
@@ -78,12 +79,15 @@ WholeInvocationsFollow = (program : Program) (words : List ℤ) (c : Cursor) (i 
     → BeginsWith program (handed_in c i) (FollowsCourse program words (behind_invocation c c.at)) (i.turning.trips - i.turning.turn) i.turning.turn left
 
 -- A cursor of a program stays one: behind each event, whatever the words, behind an invocation, and at its start again. It
--- has passed at most 2^60 iterations, and the invocation that was entered has few turns and is of a body of the program.
+-- has passed at most 2^60 iterations, and the invocation that was entered has few turns and is of a body of the program,
+-- whose loop has its step; that of an array statement has one turn.
 pub record CursorsStay : Type 0 where
   pub behind_events : (program : Program) (words : List ℤ) (c later : Cursor) → IsCursorOf program c → after_event (arrays_of program.decls) c words ≡ Ok later → IsCursorOf program later
   pub behind_invocations : (program : Program) (c : Cursor) → IsCursorOf program c → IsCursorOf program (behind_invocation c c.at)
   pub at_start : (program : Program) (c : Cursor) → IsCursorOf program c → IsCursorOf program (restarted program c)
   pub passed : (program : Program) (c : Cursor) → IsCursorOf program c → c.next ≤ 2 ^ 60
+  pub steps : (program : Program) (c : Cursor) (i : Invocation) → c.at ≡ at.Inside i → IsCursorOf program c → (l : Loop) → loop_of_body program i.body ≡ Some l → i.turning.step ≡ l.step
+  pub alone : (program : Program) (c : Cursor) (i : Invocation) → c.at ≡ at.Inside i → IsCursorOf program c → loop_of_body program i.body ≡ None → i.turning.trips ≤ 1
   pub entered : (program : Program) (c : Cursor) (i : Invocation) → c.at ≡ at.Inside i → IsCursorOf program c → (i.turning.turn ≤ i.turning.trips) × (i.turning.trips ≤ most_turns) × (i.body < length (bodies_of program))
 
 -- Behind an iteration one more was passed, behind any other event as many as before. An event of an invocation reads no word.

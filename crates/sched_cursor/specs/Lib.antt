@@ -7,3 +7,4 @@ pub mod Rooms
 pub mod Scripts
 pub mod Handed
 pub mod Laws
+pub mod Given

@@ -9,6 +9,7 @@ ghost use Rattle.nest_partition.specs.Split.{IsSplitOf};
 ghost use Rattle.sched_cursor.specs.Turning.{Reaches};
 ghost use Rattle.sched_cursor.specs.Steps.{exprs_of};
 ghost use Rattle.sched_cursor.specs.Events.{kind_of, kind_found, here_at, is_inside, is_iterating, is_of_invocation, is_iteration, handed_at, env_of, value_of};
+ghost use Rattle.sched_cursor.specs.Given.{with_given, given_named, given_at};
 ghost use Rattle.sched_cursor.specs.Laws.{IsCursorOf};
 
 use crate::event::{Event, Here, Iteration};
@@ -106,6 +107,20 @@ impl Cursor {
         }
     }
 
+    /// Gives the scheduler's scalars, and the variable of the invocation that was entered, the values that they have in the
+    /// next iteration. The event is `Iterate`.
+    pub fn put_scalars(&self, into: &mut Scalars)
+        requires { is_iterating self.now.at ≡ true }
+        ensures given { into.new ≡ given_at self.now self.now.at into.old }
+        ensures names { length into.new ≡ length into.old }
+    {
+        let At::Inside(invocation) = &self.at else {
+            unreachable!()
+        };
+        put_named(&self.names, &self.scalars, into);
+        put(invocation.name, invocation.turning.variable(), into);
+    }
+
     /// The scalars of the scheduler by their numbers, 0 where no scalar has the number.
     pub fn env(&self) -> [i64; 32]
         ensures { result ≡ env_of self.now }
@@ -147,6 +162,24 @@ fn value_of(name: Option<u32>, scalars: &Scalars) -> i64
     match name {
         Some(name) => scalars.get(name),
         None => 0,
+    }
+}
+
+// Gives the scalars with these names the values that they have among others.
+fn put_named(names: &[Option<u32>], others: &Scalars, into: &mut Scalars)
+    ensures { into.new ≡ given_named others.now names.now into.old }
+{
+    for name in names {
+        put(*name, value_of(*name, others), into);
+    }
+}
+
+// Gives a name's scalar a value, where there is a name.
+fn put(name: Option<u32>, value: i64, into: &mut Scalars)
+    ensures { into.new ≡ with_given into.old name value }
+{
+    if let Some(name) = name {
+        into.set(name, value);
     }
 }
 

@@ -1,4 +1,5 @@
 ghost use Rattle.sched_cursor.specs.Laws.{CursorsFollow, ConstWordsSuffice, WholeInvocationsFollow, CursorsStay, EventsCount, FixedWordsAreConst, BodiesInside};
+ghost use Rattle.sched_cursor.specs.Given.{GivenAgree};
 
 /// A law: from its start on a cursor follows the course of its program, event by event.
 pub fn cursors_follow()
@@ -37,4 +38,10 @@ pub fn fixed_words_are_const()
 /// A law: where a program has a cursor, each iteration of its course is of one of its bodies.
 pub fn bodies_inside()
     ensures { BodiesInside }
+{}
+
+/// A law: scalars that `put_scalars` is lent, one for each name of the program, agree behind it with those that the
+/// iteration is told with, on the scheduler's scalars and on the variable of the invocation.
+pub fn given_agree()
+    ensures { GivenAgree }
 {}

@@ -19,5 +19,5 @@ pub use cursor::Cursor;
 pub use event::{Event, Here, Iteration};
 pub use laws::{
     bodies_inside, const_words_suffice, cursors_follow, cursors_stay, events_count,
-    fixed_words_are_const, whole_invocations_follow,
+    fixed_words_are_const, given_agree, whole_invocations_follow,
 };

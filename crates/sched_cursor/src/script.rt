@@ -10,7 +10,6 @@ ghost use Rattle.sched_cursor.specs.Scripts.{header_of, block_of, Puts, PutsRegi
 
 use crate::node::{Header, Next, Node};
 use nest_syntax::{Arm, Expr, Line, Loop, NoMemory, Op, Stmt};
-use sqlite_items::Boxed;
 use std::alloc::Global;
 
 /// The events found so far, and the number of the body that stands first behind what is still to come.
@@ -151,7 +150,7 @@ impl Script {
             → Puts nodes first self.new.nodes.items self.new.first (λ (s : Setting). chosen (tested_of s arm.now ∷ arms s) (other s)) (doings_in_arm arm.now ++ does) next start) }
     {
         let taken = self.block(alloc, arm.body.as_slice(), next)?;
-        let test = copy_expr(alloc, &arm.test)?;
+        let test = arm.test.copy(alloc)?;
         self.push(Node::Test {
             line: arm.line,
             test,
@@ -171,7 +170,7 @@ impl Script {
     ) -> Result<Next, NoMemory>
         ensures { IfOk result (λ start. (start ≡ following.Node (length self.old.nodes.items)) × (self.new.nodes.items ≡ self.old.nodes.items ++ event.Change line name op value.now next ∷ []) × (self.new.first ≡ self.old.first)) }
     {
-        let value = copy_expr(alloc, value)?;
+        let value = value.copy(alloc)?;
         self.push(Node::Change {
             line,
             name,
@@ -188,37 +187,9 @@ fn copy_header(alloc: Global, headed: &Loop) -> Result<Header, NoMemory>
     Ok(Header {
         line: headed.line,
         name: headed.name,
-        low: copy_expr(alloc, &headed.low)?,
-        high: copy_expr(alloc, &headed.high)?,
+        low: headed.low.copy(alloc)?,
+        high: headed.high.copy(alloc)?,
         through: headed.through,
         step: headed.step,
     })
-}
-
-fn copy_expr(alloc: Global, expr: &Expr) -> Result<Expr, NoMemory>
-    ensures { IfOk result (λ copied. copied ≡ expr.now) }
-{
-    match expr {
-        Expr::Number(number) => Ok(Expr::Number(*number)),
-        Expr::Scalar(name) => Ok(Expr::Scalar(*name)),
-        Expr::Word(array, place) => Ok(Expr::Word(
-            *array,
-            Boxed::new(alloc, copy_expr(alloc, place.get())?)?,
-        )),
-        Expr::Unary(op, part) => Ok(Expr::Unary(
-            *op,
-            Boxed::new(alloc, copy_expr(alloc, part.get())?)?,
-        )),
-        Expr::Binary(op, left, right) => {
-            let left = Boxed::new(alloc, copy_expr(alloc, left.get())?)?;
-            let right = Boxed::new(alloc, copy_expr(alloc, right.get())?)?;
-            Ok(Expr::Binary(*op, left, right))
-        }
-        Expr::Choice(test, first, second) => {
-            let test = Boxed::new(alloc, copy_expr(alloc, test.get())?)?;
-            let first = Boxed::new(alloc, copy_expr(alloc, first.get())?)?;
-            let second = Boxed::new(alloc, copy_expr(alloc, second.get())?)?;
-            Ok(Expr::Choice(test, first, second))
-        }
-    }
 }

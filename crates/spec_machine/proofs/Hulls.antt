@@ -11,7 +11,7 @@ holds_refl claims = record { read = λ w r. r; written = λ w r. r }
 pub holds_through : (a b c : Claims) → Holds a b → Holds b c → Holds a c
 holds_through a b c x y = record { read = λ w r. x.read w (y.read w r); written = λ w r. x.written w (y.written w r) }
 
-module _ {G : Type 0} (kind : Kind G) (noted : G → Claims) (ok : IsKind kind noted) where
+module _ {G : Type 0} (kind : Kind G) (noted : G → Claims) {touched : ℕ → Bool} (ok : IsKind kind noted touched) where
   abbrev pub Wider : G → G → Type 0
   Wider sign other = Holds (noted sign) (noted other)
 

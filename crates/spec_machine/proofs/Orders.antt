@@ -1,5 +1,5 @@
 -- What the commuting law says of a segment: where nothing conflicts within the distance, and at a commit.
-use Rattle.std.proofs.Common.{◌≡◌, ℕ, ◌+◌, ◌<◌, ◌≤◌, ◌⊎◌, ℤ, true, false, Option, Some, None, IsSome, List, length, refl, sym, ap, ◌∙◌, subst, inl, inr, ⊎_elim, arith}
+use Rattle.std.proofs.Common.{◌≡◌, ℕ, ◌+◌, ◌<◌, ◌≤◌, ◌⊎◌, ℤ, Bool, true, false, Option, Some, None, IsSome, List, length, refl, sym, ap, ◌∙◌, subst, inl, inr, ⊎_elim, arith}
 use Rattle.std.proofs.lemmas.Bool.{cases_eq, cases_lt, cases_order, le-leb, or_left, or_right, true≢false}
 use Rattle.nest_syntax.specs.declared.names.Line.{Line}
 use Rattle.nest_syntax.specs.declared.operators.Cause.{Cause}
@@ -8,30 +8,41 @@ use Rattle.nest_syntax.specs.Reads.{Stopped as Ended_at}
 use Rattle.nest_syntax.specs.Outcome.{TrappedAt, place_of_trap}
 use Rattle.settle_law.specs.Trees.{Tree, turn}
 use Rattle.settle_law.specs.Traces.{Access, Read, Write, iteration, Each, Conflict, InOrder, settle, part, IsFinished, IsTrapped, Apart}
-use Rattle.settle_law.specs.Claims.{Claims, Covers, Clash}
+use Rattle.settle_law.specs.Claims.{Claims, Covers}
 use Rattle.settle_law.specs.Law.{after, accesses, Lawful}
 use Rattle.settle_law.specs.Courses.{Nest, family_of, iteration_at, reached, outcome}
 use Rattle.settle_law.specs.Reading.{NestKeepsFixed}
 use Rattle.settle_law.proofs.Members.{Has, each_at, each_of, has_part}
+use Rattle.settle_law.proofs.Claims.{covered}
 use Rattle.settle_law.proofs.Commuting.{conflict_comm}
 use Rattle.settle_law.proofs.Push.{pairs_map}
 use Rattle.settle_law.proofs.Law.{settles, traps, wholes}
 use Rattle.settle_law.proofs.Cursors.{followed_keeps}
 use Rattle.settle_law.proofs.Nests.{family_turn, reached_after, after_reached, trapped_iteration}
 use Rattle.spec_machine.specs.Invocations.{Outside, one_by_one}
+use Rattle.spec_machine.specs.Signatures.{ClashAt}
 use Rattle.spec_machine.specs.Facts.{Pair}
 use Rattle.spec_machine.specs.Machine.{Setup, Seat, Epoch, done_at, saw, pairs, pair_of, is_unordered, overlap_of, sign_at}
 use Rattle.spec_machine.specs.Table.{In}
-use Rattle.spec_machine.specs.Theorems.{IsSetupFor}
+use Rattle.spec_machine.specs.Theorems.{IsSetupFor, words_of}
 use Rattle.spec_machine.specs.Invariant.{Plan, plan, Inside, Chain, Done, IsNoted, IsBefore, Sound}
 use Rattle.spec_machine.proofs.Lists.{in_pairs}
 use Rattle.spec_machine.proofs.Plans.{epochs_rise, in_block, apart_in}
 
-pub clash_of : (claims others : Claims) (a b : Access) → Covers claims a → Covers others b → Conflict a b → Clash claims others
+-- the word of an access
+abbrev word_of : Access → ℕ
+word_of (Read k w value) = w
+word_of (Write k w value) = w
+
+clash_of : (claims others : Claims) (a b : Access) → Covers claims a → Covers others b → Conflict a b → ClashAt claims others (word_of b)
 clash_of claims others (Read j w value) (Read k u other) mine theirs c = elim c [ ]
-clash_of claims others (Read j w value) (Write k u other) mine theirs c = (u, inr (or_left (claims.read u) (claims.written u) (subst (λ x. claims.read x ≡ true) c mine), theirs))
-clash_of claims others (Write j w value) (Read k u other) mine theirs c = (u, inl (subst (λ x. claims.written x ≡ true) c mine, or_left (others.read u) (others.written u) theirs))
-clash_of claims others (Write j w value) (Write k u other) mine theirs c = (u, inl (subst (λ x. claims.written x ≡ true) c mine, or_right (others.read u) (others.written u) theirs))
+clash_of claims others (Read j w value) (Write k u other) mine theirs c = inr (or_left (claims.read u) (claims.written u) (subst (λ x. claims.read x ≡ true) c mine), theirs)
+clash_of claims others (Write j w value) (Read k u other) mine theirs c = inl (subst (λ x. claims.written x ≡ true) c mine, or_left (others.read u) (others.written u) theirs)
+clash_of claims others (Write j w value) (Write k u other) mine theirs c = inl (subst (λ x. claims.written x ≡ true) c mine, or_right (others.read u) (others.written u) theirs)
+
+passes_test : (test : ℕ → Bool) (a : Access) → Covers (words_of test) a → test (word_of a) ≡ true
+passes_test test (Read k w value) covers = covers
+passes_test test (Write k w value) covers = covers
 
 module _ {B C P G : Type 0} (m : Setup B C P G) (nest : Nest) (what : B × ℕ → ℕ × List ℤ) (start : C) (noted : G → Claims) (setup : IsSetupFor m nest what start noted) (first next : ℕ) (epochs : List (Epoch B)) (chain : Chain m nest what first next epochs) (known : (k : ℕ) → k < next → IsSome (iteration_at nest k)) (mark words : List ℤ) (marked : reached nest first ≡ Some mark) (seats : List (Seat P G)) (distance : ℕ) (cleared : List Pair) (trap : Option Place) (trace : List Access) (width : length seats ≡ m.width) (i : Sound m nest noted (plan m first next epochs) mark words seats distance cleared trap trace) where
   abbrev pub S : Plan
@@ -42,6 +53,12 @@ module _ {B C P G : Type 0} (m : Setup B C P G) (nest : Nest) (what : B × ℕ �
 
   at : (a : Access) → Has a trace → IsNoted m nest noted S seats a
   at a has = each_at (IsNoted m nest noted S seats) trace a i.accesses has
+
+  -- the word of an access is one that iterations touch
+  touched_at : (a : Access) → Has a trace → setup.touched (word_of a) ≡ true
+  touched_at a has = passes_test setup.touched a (each_at (Covers (words_of setup.touched)) (part (iteration a) trace) a
+      (covered (words_of setup.touched) (family (iteration a)) (part (iteration a) trace) (i.fits (iteration a)).0 (setup.inside (iteration a)) (i.fits (iteration a)).1)
+      (has_part (iteration a) a trace has refl))
 
   keeps : NestKeepsFixed m.system.fixed nest
   keeps = followed_keeps m.system nest what (λ (x : B × ℕ). m.entry x.0 x.1) (one_by_one m.event) (Outside start) setup.begins setup.follows
@@ -146,7 +163,7 @@ module _ {B C P G : Type 0} (m : Setup B C P G) (nest : Nest) (what : B × ℕ �
         let late : S.epoch (iteration a) < length epochs = (in_block m nest what start noted setup first next epochs chain (iteration a) (at a has_a).inside).epoch in
         let among : In (pair_of (S.epoch (iteration a)) (S.owner (iteration a)) (S.epoch (iteration b)) (S.owner (iteration b))) (pairs m.width (length epochs)) = in_pairs m.width (length epochs) (pair_of (S.epoch (iteration a)) (S.owner (iteration a)) (S.epoch (iteration b)) (S.owner (iteration b))) (record { rises = falls; late = late; early_own = (at b has_b).own; late_own = (at a has_a).own; differ = λ same. other (sym same) }) in
         let none : overlap_of m seats (pair_of (S.epoch (iteration a)) (S.owner (iteration a)) (S.epoch (iteration b)) (S.owner (iteration b))) ≡ None = no_overlap (pair_of (S.epoch (iteration a)) (S.owner (iteration a)) (S.epoch (iteration b)) (S.owner (iteration b))) among (le-leb _ _ unseen) in
-        let some : IsSome (overlap_of m seats (pair_of (S.epoch (iteration a)) (S.owner (iteration a)) (S.epoch (iteration b)) (S.owner (iteration b)))) = setup.is_kind.clashing (sign_at m seats (record { epoch = S.epoch (iteration b); worker = S.owner (iteration b) })) (sign_at m seats (record { epoch = S.epoch (iteration a); worker = S.owner (iteration a) })) (clash_of (noted (sign_at m seats (record { epoch = S.epoch (iteration b); worker = S.owner (iteration b) }))) (noted (sign_at m seats (record { epoch = S.epoch (iteration a); worker = S.owner (iteration a) }))) b a (at b has_b).covers (at a has_a).covers (conflict_comm a b c)) in
+        let some : IsSome (overlap_of m seats (pair_of (S.epoch (iteration a)) (S.owner (iteration a)) (S.epoch (iteration b)) (S.owner (iteration b)))) = setup.is_kind.clashing (sign_at m seats (record { epoch = S.epoch (iteration b); worker = S.owner (iteration b) })) (sign_at m seats (record { epoch = S.epoch (iteration a); worker = S.owner (iteration a) })) (word_of a) (touched_at a has_a) (clash_of (noted (sign_at m seats (record { epoch = S.epoch (iteration b); worker = S.owner (iteration b) }))) (noted (sign_at m seats (record { epoch = S.epoch (iteration a); worker = S.owner (iteration a) }))) b a (at b has_b).covers (at a has_a).covers (conflict_comm a b c)) in
         true≢false (sym (subst IsSome none some))
 
     all_finished : (k : ℕ) → first ≤ k → k < next → Done m nest noted S trace k

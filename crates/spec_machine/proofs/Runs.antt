@@ -150,21 +150,20 @@ module _ {B C P G : Type 0} (m : Setup B C P G) (nest : Nest) (what : B × ℕ �
         (in_either r (rollback_of m s move) (rollbacks_from m (state_after m s u move) history) (subst (In r) (rollbacks_step m s u move history is) among))) history s t e trace i among
 
     -- claims that clash make hulls overlap
-    clash_blamed : (distance g : ℕ) → ClashesIn m nest start claims distance g → (p : Pair) × IsBlamed m nest start claims size distance g p
-    clash_blamed distance g c = (
+    clash_blamed : ((k w : ℕ) → claimed (claims k) w ≡ true → setup.touched w ≡ true) → (distance g : ℕ) → ClashesIn m nest start claims distance g → (p : Pair) × IsBlamed m nest start claims size distance g p
+    clash_blamed touched distance g c = (
       c.pair,
       record {
         epochs = c.epochs;
         segment = c.segment;
         is_pair = c.is_pair;
         near = c.near;
-        overlap = setup.is_kind.clashing (hull m nest start claims size c.epochs c.pair.early) (hull m nest start claims size c.epochs c.pair.late) (
-          c.clash.0,
-          ⊎_elim
-              (λ both. inl (writes c.pair.early c.j c.clash.0 c.of_early.0 c.of_early.1 both.0, any c.pair.late c.k c.clash.0 c.of_late.0 c.of_late.1 both.1))
-              (λ both. inr (any c.pair.early c.j c.clash.0 c.of_early.0 c.of_early.1 both.0, writes c.pair.late c.k c.clash.0 c.of_late.0 c.of_late.1 both.1))
-              c.clash.1,
-        );
+        overlap = setup.is_kind.clashing (hull m nest start claims size c.epochs c.pair.early) (hull m nest start claims size c.epochs c.pair.late) c.clash.0
+            (touched c.j c.clash.0 (⊎_elim (λ both. or_right ((claims c.j).read c.clash.0) ((claims c.j).written c.clash.0) both.0) (λ both. both.0) c.clash.1))
+            (⊎_elim
+            (λ both. inl (writes c.pair.early c.j c.clash.0 c.of_early.0 c.of_early.1 both.0, any c.pair.late c.k c.clash.0 c.of_late.0 c.of_late.1 both.1))
+            (λ both. inr (any c.pair.early c.j c.clash.0 c.of_early.0 c.of_early.1 both.0, writes c.pair.late c.k c.clash.0 c.of_late.0 c.of_late.1 both.1))
+            c.clash.1);
       },
     )
       where
@@ -180,10 +179,10 @@ module _ {B C P G : Type 0} (m : Setup B C P G) (nest : Nest) (what : B × ℕ �
             (λ r. or_right _ _ (writes t k w lo hi r))
             (or_cases ((claims k).read w) ((claims k).written w) is)
 
-    below_least : ((distance g : ℕ) (p : Pair) → IsBlamed m nest start claims size distance g p → p.early.epoch + m.far < p.late.epoch) → (segment : ℕ) (cause : Abort) → CausedBy m nest start claims size segment cause → IsTrapOf m nest start segment cause
-    below_least least segment (Fails t) (inl traps) = traps
-    below_least least segment (Fails t) (inr clashes) = let b = clash_blamed m.far segment clashes in absurd (let l : b.0.early.epoch + m.far < b.0.late.epoch = least m.far segment b.0 b.1 in let n : b.0.late.epoch ≤ b.0.early.epoch + m.far = b.1.near in omega arith)
-    below_least least segment (Overlaps p array) blamed = let l : p.early.epoch + m.far < p.late.epoch = least m.far segment p blamed in let n : p.late.epoch ≤ p.early.epoch + m.far = blamed.near in omega arith
+    below_least : ((k w : ℕ) → claimed (claims k) w ≡ true → setup.touched w ≡ true) → ((distance g : ℕ) (p : Pair) → IsBlamed m nest start claims size distance g p → p.early.epoch + m.far < p.late.epoch) → (segment : ℕ) (cause : Abort) → CausedBy m nest start claims size segment cause → IsTrapOf m nest start segment cause
+    below_least touched least segment (Fails t) (inl traps) = traps
+    below_least touched least segment (Fails t) (inr clashes) = let b = clash_blamed touched m.far segment clashes in absurd (let l : b.0.early.epoch + m.far < b.0.late.epoch = least m.far segment b.0 b.1 in let n : b.0.late.epoch ≤ b.0.early.epoch + m.far = b.1.near in omega arith)
+    below_least touched least segment (Overlaps p array) blamed = let l : p.early.epoch + m.far < p.late.epoch = least m.far segment p blamed in let n : p.late.epoch ≤ p.early.epoch + m.far = blamed.near in omega arith
 
   -- A segment is restored once: behind a restore its distance is 0, at which no abort is made.
   abbrev pub MayRestore : ℕ → State B C P G → Type 0
@@ -345,7 +344,7 @@ pub causes : (B C P G : Type 0) → RollbacksAreCaused B C P G
 causes B C P G m nest what start noted claims size setup held history s rollback leads among = caused_run m nest what start noted setup claims size held history (opening m start nest.opening) s [] rollback (invariant_opening m nest what start noted setup) leads among
 
 pub below_least_traps : (B C P G : Type 0) → BelowLeastAreTraps B C P G
-below_least_traps B C P G m nest what start noted claims size setup held least history s rollback leads among = below_least m nest what start noted setup claims size held least rollback.segment rollback.cause (causes B C P G m nest what start noted claims size setup held history s rollback leads among)
+below_least_traps B C P G m nest what start noted claims size setup held touched least history s rollback leads among = below_least m nest what start noted setup claims size held touched least rollback.segment rollback.cause (causes B C P G m nest what start noted claims size setup held history s rollback leads among)
 
 pub once : (B C P G : Type 0) → SegmentsAreRestoredOnce B C P G
 once B C P G m nest what start noted setup history s leads = rises_run m nest what start noted setup history (opening m start nest.opening) s [] 0 (invariant_opening m nest what start noted setup) (inl (omega arith)) leads

@@ -9,18 +9,20 @@ use Rattle.nest_syntax.specs.Course.{Purpose, Ordinary, Header, Course}
 use Rattle.nest_syntax.specs.Course as course
 use Rattle.nest_syntax.specs.Outcome.{Done}
 use Rattle.settle_law.specs.Traces.{Read, Write}
-use Rattle.settle_law.specs.Claims.{Claims, Clash}
+use Rattle.settle_law.specs.Trees.{Tree}
+use Rattle.settle_law.specs.Trees as tree
+use Rattle.settle_law.specs.Claims.{Claims, Within}
 use Rattle.settle_law.specs.Tasks.{Stop, Loads, Stores, Finishes, System}
-use Rattle.settle_law.specs.Courses.{Nest, outcome}
+use Rattle.settle_law.specs.Courses.{Nest, family_of, outcome}
 use Rattle.settle_law.specs.Runs.{run}
 use Rattle.settle_law.specs.Reading.{BodiesBegin}
 use Rattle.spec_machine.specs.Invocations.{Event, End, Scalar, Invoke}
-use Rattle.spec_machine.specs.Signatures.{Kind, IsKind, Holds}
+use Rattle.spec_machine.specs.Signatures.{Kind, ClashAt, IsKind, Holds}
 use Rattle.spec_machine.specs.Facts.{Overlaps}
 use Rattle.spec_machine.specs.Machine.{Setup, State, opening, step, pair_of}
 use Rattle.spec_machine.specs.Runs.{trace_from, is_finished, ending_of}
 use Rattle.spec_machine.specs.Segments.{segments}
-use Rattle.spec_machine.specs.Theorems.{IsSetupFor, Completes}
+use Rattle.spec_machine.specs.Theorems.{words_of, IsSetupFor, Completes}
 use Rattle.spec_machine.specs.Measure.{measure, bound}
 use Rattle.spec_machine.proofs.Runs.{ends}
 
@@ -192,9 +194,9 @@ overlapping : (sign other : Sign) → (writes_meet sign other ≡ true) ⊎ (mee
 overlapping sign other (inl first) = told (writes_meet sign other || meet sign.reads other.writes) (or_left (writes_meet sign other) (meet sign.reads other.writes) first)
 overlapping sign other (inr second) = told (writes_meet sign other || meet sign.reads other.writes) (or_right (writes_meet sign other) (meet sign.reads other.writes) second)
 
-clashing : (sign other : Sign) → Clash (noted sign) (noted other) → IsSome (overlap_at sign other)
-clashing sign other (w, inl both) = overlapping sign other (inl (meets sign.writes (other.reads ++ other.writes) w both.0 (⊎_elim (λ r. has_first other.reads other.writes w r) (λ r. has_last other.reads other.writes w r) (or_cases (has other.reads w) (has other.writes w) both.1))))
-clashing sign other (w, inr both) = ⊎_elim
+clashing : (sign other : Sign) (w : ℕ) → ClashAt (noted sign) (noted other) w → IsSome (overlap_at sign other)
+clashing sign other w (inl both) = overlapping sign other (inl (meets sign.writes (other.reads ++ other.writes) w both.0 (⊎_elim (λ r. has_first other.reads other.writes w r) (λ r. has_last other.reads other.writes w r) (or_cases (has other.reads w) (has other.writes w) both.1))))
+clashing sign other w (inr both) = ⊎_elim
     (λ read. overlapping sign other (inr (meets sign.reads other.writes w read both.1)))
     (λ written. overlapping sign other (inl (meets sign.writes (other.reads ++ other.writes) w written (has_last other.reads other.writes w both.1))))
     (or_cases (has sign.reads w) (has sign.writes w) both.0)
@@ -205,7 +207,7 @@ more sign other wider wider_other holds holds_other some = ⊎_elim
     (λ second. let r = met sign.reads other.writes second in overlapping wider wider_other (inr (meets wider.reads wider_other.writes r.0 (holds.read r.0 r.1) (holds_other.written r.0 r.2))))
     (or_cases (writes_meet sign other) (meet sign.reads other.writes) (untold (writes_meet sign other || meet sign.reads other.writes) some))
 
-is_kind : IsKind exact noted
+is_kind : IsKind exact noted (λ w. true)
 is_kind = record {
   blank_reads = λ w. refl;
   blank_writes = λ w. refl;
@@ -213,9 +215,16 @@ is_kind = record {
   read_writes = λ w u sign. refl;
   written_reads = λ w u sign. refl;
   written_writes = λ w u sign. refl;
-  clashing = clashing;
+  clashing = λ sign other w touched clash. clashing sign other w clash;
   more = more;
 }
+
+-- iterations may touch any word
+all_within : (t : Tree) → Within (words_of (λ w. true)) t
+all_within tree.Finished = tt
+all_within (tree.Trapped cause line) = tt
+all_within (tree.Load w go) = (refl, λ value. all_within (go value))
+all_within (tree.Store w value rest) = (refl, all_within rest)
 
 -- and the setup its premises
 realised : BodiesBegin pieces nest what (λ (i : Body × ℕ). entry_at i.0 i.1)
@@ -230,6 +239,8 @@ setup = record {
   follows = (_, refl, λ none. (_, _, refl, refl, (_, refl, (_, refl, λ none. (_, _, refl, refl, (_, refl, refl))))));
   opens_fixed = λ w value told. absurd (let no : None ≡ Some value = told in cc);
   apart = λ b first x y all. absurd (true≢false (sym all));
+  touched = λ w. true;
+  inside = λ k. all_within (family_of machine.system.fixed nest k);
   is_kind = is_kind;
 }
 

@@ -1,5 +1,5 @@
 -- One seat more or less: how seats grow, and lists that get one element more.
-use Rattle.std.proofs.Common.{◌≡◌, ℕ, zero, suc, ◌+◌, ◌<◌, ◌≤◌, ◌==◌, List, [], ◌∷◌, ◌++◌, length, get_or, slice_set, nat_le, refl, sym, ap, ◌∙◌, subst, inl, inr, ⊎_elim, arith, length-append}
+use Rattle.std.proofs.Common.{◌≡◌, ℕ, zero, suc, ◌+◌, ◌<◌, ◌≤◌, ◌==◌, Bool, List, [], ◌∷◌, ◌++◌, length, get_or, slice_set, nat_le, refl, sym, ap, ◌∙◌, subst, inl, inr, ⊎_elim, arith, length-append}
 use Rattle.std.proofs.lemmas.Bool.{cases_eq, or_right, or_left, eq-eqb}
 use Rattle.std.proofs.lemmas.List.{get_or-set_same, get_or-set_other, get_or_append_left}
 use Rattle.settle_law.specs.Trees.{Tree, Finished, Trapped, Load, Store}
@@ -81,7 +81,7 @@ module _ {B C P G : Type 0} (m : Setup B C P G) (noted : G → Claims) where
   covers_more claims others (Write k w value) holds c = holds.written w c
 
   -- noting an access
-  module _ (kind_ok : IsKind m.kind noted) where
+  module _ {touched : ℕ → Bool} (kind_ok : IsKind m.kind noted touched) where
     pub note_holds : (a : Access) (sign : G) → Holds (noted (note m.kind a sign)) (noted sign)
     note_holds (Read k w value) sign = record {
       read = λ u r. kind_ok.read_reads w u sign ∙ or_right (w == u) ((noted sign).read u) r;

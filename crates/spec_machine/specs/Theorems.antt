@@ -1,5 +1,5 @@
 -- What is claimed of every history, whatever the order of the actors in it.
-use Rattle.std.specs.Prelude.{◌≡◌, ◌↔◌, ℕ, suc, ◌+◌, ◌<◌, ◌≤◌, ◌⊎◌, ℤ, true, false, Some, None, IsSome, List, [], ◌∷◌, length, take}
+use Rattle.std.specs.Prelude.{◌≡◌, ◌↔◌, ℕ, suc, ◌+◌, ◌<◌, ◌≤◌, ◌⊎◌, ℤ, Bool, true, false, Some, None, IsSome, List, [], ◌∷◌, length, take}
 use Rattle.std.specs.List.{filter}
 use Rattle.settle_law.specs.Cuts.{HoldsFixed}
 use Rattle.settle_law.specs.Traces.{Access, part, Apart}
@@ -17,10 +17,14 @@ use Rattle.spec_machine.specs.Table.{In, Enabled}
 use Rattle.spec_machine.specs.Runs.{trace_from, rows_from, rollbacks_from, is_finished, ending_of, ended_actor}
 use Rattle.spec_machine.specs.Segments.{IsBlamed, TrapsIn, ClashesIn, hull, opens_at}
 
+-- all words that pass a test
+abbrev pub words_of : (ℕ → Bool) → Claims
+words_of test = record { read = test; written = test }
+
 -- A setup is for a nest where there is a worker, and room in a segment; the first piece of each iteration that is handed
 -- out realises its cut turn; the cursor, taken one event at a time, follows the course of the nest; `const` words have
 -- their values as the nest opens; two iterations of one invocation whose loop is DoAll are apart; and signatures of the
--- kind keep its law.
+-- kind keep its law for the words that iterations touch.
 pub record IsSetupFor {B C P G : Type 0} (m : Setup B C P G) (nest : Nest) (what : B × ℕ → ℕ × List ℤ) (start : C) (noted : G → Claims) : Type 0 where
   pub some_worker : 0 < m.width
   pub some_room : 0 < m.room
@@ -28,7 +32,9 @@ pub record IsSetupFor {B C P G : Type 0} (m : Setup B C P G) (nest : Nest) (what
   pub follows : Follows nest what (one_by_one m.event) (Outside start) nest.course
   pub opens_fixed : HoldsFixed m.system.fixed nest.opening
   pub apart : (b : B) (first x y : ℕ) → m.doall b ≡ true → (x ≡ y → ⊥) → iteration_at nest (first + x) ≡ Some (what (b, x)) → iteration_at nest (first + y) ≡ Some (what (b, y)) → Apart (family_of m.system.fixed nest (first + x)) (family_of m.system.fixed nest (first + y))
-  pub is_kind : IsKind m.kind noted
+  pub touched : ℕ → Bool
+  pub inside : (k : ℕ) → Within (words_of touched) (family_of m.system.fixed nest k)
+  pub is_kind : IsKind m.kind noted touched
 
 -- a legal history leads from the opening to a state
 abbrev pub Leads : {B C P G : Type 0} → Setup B C P G → Nest → C → List ℕ → State B C P G → Type 0
@@ -81,13 +87,14 @@ abbrev pub RollbacksAreCaused : Type 0 → Type 0 → Type 0 → Type 0 → Type
 RollbacksAreCaused B C P G = (m : Setup B C P G) (nest : Nest) (what : B × ℕ → ℕ × List ℤ) (start : C) (noted : G → Claims) (claims : ℕ → Claims) (size : ℕ) → IsSetupFor m nest what start noted → AreHeld m nest claims size → (history : List ℕ) (s : State B C P G) (rollback : Rollback) → Leads m nest start history s → In rollback (rollbacks_from m (opening m start nest.opening) history) → CausedBy m nest start claims size rollback.segment rollback.cause
 
 -- Where the set distance is below the least distance, at which two tasks to blame are apart, no rollback is of an overlap,
--- and one of a trap comes only in the segment in which the outcome traps.
+-- and one of a trap comes only in the segment in which the outcome traps. Only words that iterations may touch are claimed
+-- there.
 abbrev pub IsTrapOf : {B C P G : Type 0} → Setup B C P G → Nest → C → ℕ → Abort → Type 0
 IsTrapOf m nest start segment (Fails t) = TrapsIn m nest start segment
 IsTrapOf m nest start segment (Overlaps p array) = ⊥
 
 abbrev pub BelowLeastAreTraps : Type 0 → Type 0 → Type 0 → Type 0 → Type 0
-BelowLeastAreTraps B C P G = (m : Setup B C P G) (nest : Nest) (what : B × ℕ → ℕ × List ℤ) (start : C) (noted : G → Claims) (claims : ℕ → Claims) (size : ℕ) → IsSetupFor m nest what start noted → AreHeld m nest claims size → ((distance g : ℕ) (p : Pair) → IsBlamed m nest start claims size distance g p → p.early.epoch + m.far < p.late.epoch) → (history : List ℕ) (s : State B C P G) (rollback : Rollback) → Leads m nest start history s → In rollback (rollbacks_from m (opening m start nest.opening) history) → IsTrapOf m nest start rollback.segment rollback.cause
+BelowLeastAreTraps B C P G = (m : Setup B C P G) (nest : Nest) (what : B × ℕ → ℕ × List ℤ) (start : C) (noted : G → Claims) (claims : ℕ → Claims) (size : ℕ) → (setup : IsSetupFor m nest what start noted) → AreHeld m nest claims size → ((k w : ℕ) → claimed (claims k) w ≡ true → setup.touched w ≡ true) → ((distance g : ℕ) (p : Pair) → IsBlamed m nest start claims size distance g p → p.early.epoch + m.far < p.late.epoch) → (history : List ℕ) (s : State B C P G) (rollback : Rollback) → Leads m nest start history s → In rollback (rollbacks_from m (opening m start nest.opening) history) → IsTrapOf m nest start rollback.segment rollback.cause
 
 -- A segment is restored at most once: the segments of the rollbacks of a legal history rise.
 abbrev pub Rises : ℕ → List Rollback → Type 0

@@ -101,7 +101,7 @@ one_more found d name = by (has_name found d.0) refl where
   by true there = known (d.0 == name) there refl
   by false none = list_any-append (λ (x : Declaration). x.0 == name) found (d ∷ []) ∙ ap (λ b. has_name found name || b) (or_false (d.0 == name))
 
-all_more : (found ds : List Declaration) (name : ℕ) → has_name (through with_declaration found ds) name ≡ (has_name found name || has_name ds name)
+pub all_more : (found ds : List Declaration) (name : ℕ) → has_name (through with_declaration found ds) name ≡ (has_name found name || has_name ds name)
 all_more found [] name = sym (or_false (has_name found name))
 all_more found (d ∷ ds) name = all_more (with_declaration found d) ds name ∙ ap (λ b. b || has_name ds name) (one_more found d name) ∙ or_assoc (has_name found name) (d.0 == name) (has_name ds name)
 

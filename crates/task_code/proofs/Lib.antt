@@ -1,6 +1,7 @@
 pub mod Hops
 pub mod Follows
 pub mod Emitted
+pub mod Sized
 pub mod Frames
 pub mod Given
 pub mod Reckonings
@@ -19,3 +20,4 @@ pub mod Zeros
 pub mod Opening
 pub mod Readied
 pub mod Whole
+pub mod Entries

@@ -20,6 +20,7 @@ use Rattle.task_code.specs.Follows.{Follows}
 use Rattle.task_code.specs.Ready.{block_ready}
 use Rattle.task_code.specs.Compiled.{Holds}
 use Rattle.task_code.specs.Bodies.{layout_of, slot_of}
+use Rattle.task_code.specs.Sized.{AreSized}
 
 -- What an iteration of a body begins with holds the scalars: `value` that of the invocation's variable, `env` those of the
 -- scheduler, by their numbers. A scalar of the scheduler whose name is a local of the body isn't in scope there.
@@ -43,9 +44,10 @@ AreEntriesOf program code (body ∷ bodies) (entry ∷ entries) = IsEntryOf prog
 AreEntriesOf program code [] (entry ∷ entries) = ⊥
 AreEntriesOf program code (body ∷ bodies) [] = ⊥
 
--- Each body of the program, in textual order, has its entry.
-abbrev pub IsCodeOf : Program → Code → Type 0
-IsCodeOf program code = AreEntriesOf program code.instructions (invoked_by program) code.entries
+-- Each body of the program, in textual order, has its entry, and what is read and written are words of its arrays.
+pub record IsCodeOf (program : Program) (code : Code) : Type 0 where
+  pub entries : AreEntriesOf program code.instructions (invoked_by program) code.entries
+  pub sized : AreSized (sizes_of (arrays_of program.decls)) code.instructions
 
 -- No caller needs what follows. A body that can be compiled: its locals have registers, its statements are ready, and the
 -- frame that an iteration begins on holds the scalars.

@@ -4,4 +4,6 @@ pub mod Follows
 pub mod Ready
 pub mod Compiled
 pub mod Bodies
+pub mod Sized
 pub mod CodeOf
+pub mod Entries

@@ -1,6 +1,7 @@
-ghost use Rattle.std.specs.Prelude.{◌≡◌, IfOk};
+ghost use Rattle.std.specs.Prelude.{◌≡◌, ℕ, List, IfOk, OnOk};
 ghost use Rattle.nest_syntax.specs.Words as word;
 ghost use Rattle.task_code.specs.Compiled.{Emits, GivesBy, WritesBy};
+ghost use Rattle.task_code.specs.Sized.{IsOfArray, StaysSized};
 
 use crate::code::Instruction;
 use crate::expressions::emit;
@@ -8,6 +9,7 @@ use nest_syntax::{Bin, Line, NoMemory, Op};
 use task_hop::{End, Operand, Operation, Register, Subscript};
 
 /// Adds what gives a register the value of an operand, by `=` or by `op=`, which reads the register then.
+#[tactic(auto, using(crate::proofs::Sized::sized_made, crate::proofs::Sized::sized_then, crate::proofs::Sized::sized_after))]
 pub(crate) fn give(
     register: Register,
     op: Op,
@@ -17,7 +19,8 @@ pub(crate) fn give(
     next: u32,
     code: &mut Vec<Instruction>,
 ) -> Result<u32, NoMemory>
-    ensures { IfOk result (λ entry. Emits code.old.items code.new.items (λ c. GivesBy (word.operation_of op) register value into line next c entry)) }
+    ensures code { IfOk result (λ entry. Emits code.old.items code.new.items (λ c. GivesBy (word.operation_of op) register value into line next c entry)) }
+    ensures sized { (sizes : List ℕ) → OnOk result (StaysSized sizes code.old.items code.new.items) }
 {
     match operation(op) {
         None => emit(code, giving(register, value, next)),
@@ -33,6 +36,7 @@ pub(crate) fn give(
 }
 
 /// Adds what writes the value of an operand to a word, by `=` or by `op=`, which reads the word into a temporary first.
+#[tactic(auto, using(crate::proofs::Sized::sized_made, crate::proofs::Sized::sized_then, crate::proofs::Sized::sized_after))]
 pub(crate) fn write(
     to: Subscript,
     op: Op,
@@ -42,7 +46,8 @@ pub(crate) fn write(
     next: u32,
     code: &mut Vec<Instruction>,
 ) -> Result<u32, NoMemory>
-    ensures { IfOk result (λ entry. Emits code.old.items code.new.items (λ c. WritesBy (word.operation_of op) to value into line next c entry)) }
+    ensures code { IfOk result (λ entry. Emits code.old.items code.new.items (λ c. WritesBy (word.operation_of op) to value into line next c entry)) }
+    ensures sized { (sizes : List ℕ) → IsOfArray sizes to → OnOk result (StaysSized sizes code.old.items code.new.items) }
 {
     match operation(op) {
         None => emit(code, storing(to, value, next)),

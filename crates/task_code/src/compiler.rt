@@ -1,6 +1,8 @@
-ghost use Rattle.std.specs.Prelude.{◌≡◌, IfOk};
+ghost use Rattle.std.specs.Prelude.{◌≡◌, IfOk, OnOk};
+ghost use Rattle.nest_syntax.specs.Arrays.{arrays_of, sizes_of};
 ghost use Rattle.task_code.specs.Bodies.{told, slot_of};
 ghost use Rattle.task_code.specs.Compiled.{Emits};
+ghost use Rattle.task_code.specs.Sized.{StaysSized};
 ghost use Rattle.task_code.specs.CodeOf.{IsReady, IsStart, IsCodeOf};
 
 use crate::bodies::{Body, bodies_of};
@@ -36,7 +38,8 @@ fn compile_body(
     code: &mut Vec<Instruction>,
 ) -> Result<Entry, NoMemory>
     requires { IsReady checked.now (told body.now) }
-    ensures { IfOk result (λ entry. Emits code.old.items code.new.items (λ c. IsStart checked.now c (told body.now) entry)) }
+    ensures code { IfOk result (λ entry. Emits code.old.items code.new.items (λ c. IsStart checked.now c (told body.now) entry)) }
+    ensures sized { OnOk result (StaysSized (sizes_of (arrays_of checked.now.decls)) code.old.items code.new.items) }
 {
     let locals = locals_of(alloc, body)?;
     let finish = emit(code, Instruction::End(End::Finish))?;

@@ -1,5 +1,7 @@
-ghost use Rattle.std.specs.Prelude.{◌≡◌, ◌≤◌, [], ◌∷◌, ◌++◌, length, true, IsTrue, IfOk, OnOk};
+ghost use Rattle.std.specs.Prelude.{◌≡◌, ◌≤◌, ℕ, List, [], ◌∷◌, ◌++◌, length, true, IsTrue, IfOk, OnOk};
+ghost use Rattle.nest_syntax.specs.Arrays.{arrays_of, sizes_of};
 ghost use Rattle.task_code.specs.Code.{instruction_at};
+ghost use Rattle.task_code.specs.Sized.{IsSized, StaysSized};
 ghost use Rattle.task_code.specs.Ready.{expr_ready, is_leaf};
 ghost use Rattle.task_code.specs.Compiled.{Emits, Reckons, Opens, closing, setting, straight};
 
@@ -9,8 +11,10 @@ use nest_syntax::{Bin, Expr, Line, NoMemory};
 use task_hop::{End, Jump, Operand, Operation, Register, Way};
 
 /// Adds an instruction, and answers its address. Addresses are below 2^32: code that is longer counts as want of memory.
+#[tactic(auto, using(crate::proofs::Sized::sized_one))]
 pub(crate) fn emit(code: &mut Vec<Instruction>, instruction: Instruction) -> Result<u32, NoMemory>
-    ensures { IfOk result (λ at. Emits code.old.items code.new.items (λ c. instruction_at c at ≡ instruction)) }
+    ensures code { IfOk result (λ at. Emits code.old.items code.new.items (λ c. instruction_at c at ≡ instruction)) }
+    ensures sized { (sizes : List ℕ) → IsSized sizes instruction → OnOk result (StaysSized sizes code.old.items code.new.items) }
 {
     let Ok(at) = u32::try_from(code.len()) else {
         return Err(NoMemory);
@@ -20,9 +24,11 @@ pub(crate) fn emit(code: &mut Vec<Instruction>, instruction: Instruction) -> Res
 }
 
 /// Adds a place for an instruction that isn't known yet, and answers its address.
+#[tactic(auto, using(crate::proofs::Sized::sized_one))]
 pub(crate) fn reserve(code: &mut Vec<Instruction>) -> Result<u32, NoMemory>
     ensures place { IfOk result (λ at. at ≡ length code.old.items) }
     ensures code { OnOk result (code.new.items ≡ code.old.items ++ Instruction.End End.Finish ∷ []) }
+    ensures sized { (sizes : List ℕ) → OnOk result (StaysSized sizes code.old.items code.new.items) }
 {
     let Ok(at) = u32::try_from(code.len()) else {
         return Err(NoMemory);
@@ -44,6 +50,7 @@ pub(crate) fn reckon(
     requires few { length layout.now.locals.now ≤ 16 }
     requires ready { IsTrue (expr_ready layout.now.checked.now layout.now.locals.now expr.now into) }
     ensures code { IfOk result (λ entry. Emits code.old.items code.new.items (λ c. Reckons layout.now.checked.now layout.now.locals.now line expr.now into next c entry)) }
+    ensures sized { OnOk result (StaysSized (sizes_of (arrays_of layout.now.checked.now.decls)) code.old.items code.new.items) }
     ensures leaf { IfOk result (λ entry. is_leaf expr.now ≡ true → entry ≡ next) }
 {
     match expr {
@@ -106,6 +113,7 @@ fn closing(op: Bin, left: Operand, right: Operand, into: u8, line: Line, next: u
 
 // What stands behind the left operand of a binary operation, whose right one begins at `right`: `&&` and `||` are decided
 // there, or go on.
+#[tactic(auto, using(crate::proofs::Sized::sized_made, crate::proofs::Sized::sized_same))]
 fn decide(
     op: Bin,
     left: Operand,
@@ -114,7 +122,8 @@ fn decide(
     next: u32,
     code: &mut Vec<Instruction>,
 ) -> Result<u32, NoMemory>
-    ensures { IfOk result (λ at. Emits code.old.items code.new.items (λ c. Opens op left into right next c at)) }
+    ensures code { IfOk result (λ at. Emits code.old.items code.new.items (λ c. Opens op left into right next c at)) }
+    ensures sized { (sizes : List ℕ) → OnOk result (StaysSized sizes code.old.items code.new.items) }
 {
     match op {
         Bin::Both => emit(code, branch(left, setting(into, 0, next), straight(right))),

@@ -9,9 +9,11 @@ mod changes;
 mod code;
 mod compiler;
 mod expressions;
+mod laws;
 mod layout;
 mod locals;
 mod statements;
 
 pub use code::{Entry, Instruction, TaskCode};
 pub use compiler::compile;
+pub use laws::{entries_are_of_bodies, entries_count, turns_are_of_bodies, variables_are_locals};

@@ -1,10 +1,11 @@
-ghost use Rattle.std.specs.Prelude.{◌≤◌, length, map, IsTrue, IfOk};
+ghost use Rattle.std.specs.Prelude.{◌≤◌, length, map, IsTrue, IfOk, OnOk};
 ghost use Rattle.std.specs.List.{list_all};
-ghost use Rattle.nest_syntax.specs.Arrays.{arrays_of};
+ghost use Rattle.nest_syntax.specs.Arrays.{arrays_of, sizes_of};
 ghost use Rattle.nest_syntax.specs.Turn.{Effect, sequence, effect, loop_effect, choose};
 ghost use Rattle.nest_syntax.proofs.Equations.{arm_effect};
 ghost use Rattle.task_code.specs.Ready.{block_ready, stmt_ready, arm_ready, loop_ready};
 ghost use Rattle.task_code.specs.Compiled.{Emits, Carries};
+ghost use Rattle.task_code.specs.Sized.{StaysSized};
 
 use crate::changes::{give, write};
 use crate::code::Instruction;
@@ -25,7 +26,8 @@ pub(crate) fn compile_block(
 ) -> Result<u32, NoMemory>
     requires few { length layout.now.locals.now ≤ 16 }
     requires ready { IsTrue (block_ready layout.now.checked.now layout.now.locals.now stmts.now into) }
-    ensures { IfOk result (λ entry. Emits code.old.items code.new.items (λ c. Carries layout.now.checked.now layout.now.locals.now (sequence (map (effect (arrays_of layout.now.checked.now.decls)) stmts.now)) into next c entry)) }
+    ensures code { IfOk result (λ entry. Emits code.old.items code.new.items (λ c. Carries layout.now.checked.now layout.now.locals.now (sequence (map (effect (arrays_of layout.now.checked.now.decls)) stmts.now)) into next c entry)) }
+    ensures sized { OnOk result (StaysSized (sizes_of (arrays_of layout.now.checked.now.decls)) code.old.items code.new.items) }
 {
     let mut entry = next;
     for i in (0..stmts.len()).rev() {
@@ -44,7 +46,8 @@ fn compile_stmt(
 ) -> Result<u32, NoMemory>
     requires few { length layout.now.locals.now ≤ 16 }
     requires ready { IsTrue (stmt_ready layout.now.checked.now layout.now.locals.now stmt.now into) }
-    ensures { IfOk result (λ entry. Emits code.old.items code.new.items (λ c. Carries layout.now.checked.now layout.now.locals.now (effect (arrays_of layout.now.checked.now.decls) stmt.now) into next c entry)) }
+    ensures code { IfOk result (λ entry. Emits code.old.items code.new.items (λ c. Carries layout.now.checked.now layout.now.locals.now (effect (arrays_of layout.now.checked.now.decls) stmt.now) into next c entry)) }
+    ensures sized { OnOk result (StaysSized (sizes_of (arrays_of layout.now.checked.now.decls)) code.old.items code.new.items) }
 {
     match stmt {
         Stmt::Declare { line, name, value } => {
@@ -111,8 +114,9 @@ fn compile_arms(
 ) -> Result<u32, NoMemory>
     requires few { length layout.now.locals.now ≤ 16 }
     requires ready { IsTrue (list_all (λ a. arm_ready layout.now.checked.now layout.now.locals.now a into) arms.now) }
-    ensures { IfOk result (λ entry. Emits code.old.items code.new.items (λ c. (other : Effect) → Carries layout.now.checked.now layout.now.locals.now other into next c otherwise
+    ensures code { IfOk result (λ entry. Emits code.old.items code.new.items (λ c. (other : Effect) → Carries layout.now.checked.now layout.now.locals.now other into next c otherwise
         → Carries layout.now.checked.now layout.now.locals.now (choose (map (arm_effect (arrays_of layout.now.checked.now.decls)) arms.now) other) into next c entry)) }
+    ensures sized { OnOk result (StaysSized (sizes_of (arrays_of layout.now.checked.now.decls)) code.old.items code.new.items) }
 {
     let mut entry = otherwise;
     for i in (0..arms.len()).rev() {
@@ -132,8 +136,9 @@ fn compile_arm(
 ) -> Result<u32, NoMemory>
     requires few { length layout.now.locals.now ≤ 16 }
     requires ready { IsTrue (arm_ready layout.now.checked.now layout.now.locals.now arm.now into) }
-    ensures { IfOk result (λ entry. Emits code.old.items code.new.items (λ c. (other : Effect) → Carries layout.now.checked.now layout.now.locals.now other into next c otherwise
+    ensures code { IfOk result (λ entry. Emits code.old.items code.new.items (λ c. (other : Effect) → Carries layout.now.checked.now layout.now.locals.now other into next c otherwise
         → Carries layout.now.checked.now layout.now.locals.now (λ scalars go. arm_effect (arrays_of layout.now.checked.now.decls) arm.now scalars (other scalars go) go) into next c entry)) }
+    ensures sized { OnOk result (StaysSized (sizes_of (arrays_of layout.now.checked.now.decls)) code.old.items code.new.items) }
 {
     let block = compile_block(arm.body.as_slice(), into, next, layout, code)?;
     let value = layout.operand(&arm.test, into);
@@ -151,7 +156,8 @@ fn compile_loop(
 ) -> Result<u32, NoMemory>
     requires few { length layout.now.locals.now ≤ 16 }
     requires ready { IsTrue (loop_ready layout.now.checked.now layout.now.locals.now inner.now into) }
-    ensures { IfOk result (λ entry. Emits code.old.items code.new.items (λ c. Carries layout.now.checked.now layout.now.locals.now (loop_effect (arrays_of layout.now.checked.now.decls) inner.now) into next c entry)) }
+    ensures code { IfOk result (λ entry. Emits code.old.items code.new.items (λ c. Carries layout.now.checked.now layout.now.locals.now (loop_effect (arrays_of layout.now.checked.now.decls) inner.now) into next c entry)) }
+    ensures sized { OnOk result (StaysSized (sizes_of (arrays_of layout.now.checked.now.decls)) code.old.items code.new.items) }
 {
     // What comes behind a turn leads back to the body, whose address isn't known yet: its place is kept.
     let again = reserve(code)?;

@@ -1,2 +1,3 @@
 pub mod Realised
 pub mod Bodies
+pub mod Stops

@@ -1,3 +1,4 @@
 pub mod Pieces
 pub mod System
 pub mod Bodies
+pub mod Stops

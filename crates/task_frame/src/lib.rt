@@ -9,7 +9,9 @@ mod piece;
 mod same;
 mod worked;
 
-pub use laws::{bodies_are_realised, bodies_stop_at_most, turns_are_realised, turns_may_pause};
+pub use laws::{
+    bodies_are_realised, bodies_stop_at_most, stops_are_inside, turns_are_realised, turns_may_pause,
+};
 pub use piece::{Piece, opening};
 pub use task_hop::{Frame, Stop};
 pub use worked::{Worked, work};

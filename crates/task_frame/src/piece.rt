@@ -1,6 +1,7 @@
 ghost use Rattle.std.specs.Prelude.{◌≡◌, ◌<◌, length};
 ghost use Rattle.task_frame.specs.Pieces.{opening_of};
 
+use arrayvec::ArrayVec;
 use task_code::TaskCode;
 use task_hop::{Frame, Hop, Register};
 
@@ -9,6 +10,31 @@ use task_hop::{Frame, Hop, Register};
 pub struct Piece {
     pub hop: Hop,
     pub frame: Frame,
+}
+
+impl Piece {
+    /// The same piece again.
+    pub fn copy(&self) -> Piece
+        ensures { result ≡ self.now }
+    {
+        Piece {
+            hop: copy_of(&self.hop),
+            frame: self.frame,
+        }
+    }
+}
+
+fn copy_of(hop: &Hop) -> Hop
+    ensures { result ≡ hop.now }
+{
+    let mut operations = ArrayVec::new();
+    for operation in hop.operations.as_slice() {
+        operations.push(*operation);
+    }
+    Hop {
+        operations,
+        end: hop.end,
+    }
 }
 
 /// The piece with which an iteration of a body begins: the hop at the body's entry, with the scheduler scalars `env`, the

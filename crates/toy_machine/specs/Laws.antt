@@ -10,12 +10,13 @@ use Rattle.progress_board.specs.Runs.{IsReached, IsLegal}
 use Rattle.progress_board.specs.declared.options.Options.{Options}
 use Rattle.progress_board.specs.declared.actors.Row.TheVariants.{End}
 use Rattle.progress_board.specs.declared.actors.Work.{Work}
-use Rattle.progress_board.specs.declared.actors.Work.TheVariants.{Turn, Hop}
+use Rattle.progress_board.specs.declared.actors.Work.TheVariants.{Hop}
 use Rattle.task_frame.specs.declared.piece.Piece.{Piece}
 use Rattle.progress_board.specs.declared.actors.Ask.TheVariants.{Ready, Ended}
 use Rattle.progress_board.specs.declared.facts.Facts.{Facts}
 use Rattle.progress_board.specs.Actors.{actors_of, is_ready, asked_as, IsRowOf, SomeEnabled, AllEnded}
 use Rattle.progress_board.proofs.Runs.{reached_step, run_keeps}
+use Rattle.progress_board.proofs.Turns.{names_turn, asks_turn}
 use Rattle.toy_machine.specs.State.{State}
 use Rattle.toy_machine.specs.Tokens.{Move, Hands, Halts, Takes, move_of, state_after, step, row_of, has_ended, answer, asked, made_of, made_by, is_finished, measure, opening, no_facts}
 use Rattle.toy_machine.specs.Kept.{IsSound, IsKept}
@@ -177,19 +178,8 @@ asked_row Hands = refl
 asked_row Halts = refl
 asked_row Takes = refl
 
-names_move : (s : State) (ended : Bool) (o : Option Move) (work : Work) → answer ended o ≡ Ready work → IsRowOf work (option_map_or (made_of s) o (record { row = End; number = 0 })).row
-names_move s ended (Some move) work e = let same : Turn (row_of move) ≡ work = cc in subst (λ w. IsRowOf w (row_of move)) same (asked_row move)
-names_move s true None work e = absurd (cc)
-names_move s false None work e = absurd (cc)
-
 pub names : (s : State) (actor : ℕ) (work : Work) → asked s actor ≡ Ready work → IsRowOf work (made_by s actor).row
-names s actor work e = names_move s (has_ended s actor) (move_of s actor) work e
-
--- no piece is asked for
-no_piece : (ended : Bool) (o : Option Move) (piece : Piece) → answer ended o ≡ Ready (Hop piece) → ⊥
-no_piece ended (Some move) piece e = cc
-no_piece true None piece e = cc
-no_piece false None piece e = cc
+names s actor work e = names_turn row_of (made_of s) (record { row = End; number = 0 }) asked_row (has_ended s actor) (move_of s actor) work e
 
 pub asks_no_piece : (s : State) (actor : ℕ) (piece : Piece) → asked s actor ≡ Ready (Hop piece) → ⊥
-asks_no_piece s actor piece e = no_piece (has_ended s actor) (move_of s actor) piece e
+asks_no_piece s actor piece e = asks_turn row_of (has_ended s actor) (move_of s actor) piece e

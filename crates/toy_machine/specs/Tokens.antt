@@ -5,9 +5,8 @@ use Rattle.nest_mean.specs.Nest.{Nest}
 use Rattle.progress_board.specs.declared.options.Options.{Options}
 use Rattle.progress_board.specs.declared.actors.Row.{Row}
 use Rattle.progress_board.specs.declared.actors.Row.TheVariants.{Dispatch, Halt, Take, End}
-use Rattle.progress_board.specs.declared.actors.Work.TheVariants.{Turn}
 use Rattle.progress_board.specs.declared.actors.Ask.{Ask}
-use Rattle.progress_board.specs.declared.actors.Ask.TheVariants.{Ready, NotYet, Ended}
+use Rattle.progress_board.specs.Actors.{turn_asked}
 use Rattle.progress_board.specs.declared.actors.Made.{Made}
 use Rattle.progress_board.specs.declared.facts.Ending.{Ending}
 use Rattle.progress_board.specs.declared.facts.Ending.TheVariants.{Unfinished, Done}
@@ -57,9 +56,7 @@ has_ended s actor = if nat_lt actor s.options.workers then s.halted && (s.taken 
 
 -- the answer to an actor, by whether it has ended and by its move
 abbrev pub answer : Bool → Option Move → Ask
-answer ended (Some move) = Ready (Turn (row_of move))
-answer true None = Ended
-answer false None = NotYet
+answer = turn_asked row_of
 
 abbrev pub asked : State → ℕ → Ask
 asked s actor = answer (has_ended s actor) (move_of s actor)

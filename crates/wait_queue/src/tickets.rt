@@ -31,6 +31,13 @@ impl Tickets {
         Ok(Tickets { ring })
     }
 
+    /// How many tickets there are.
+    pub fn len(&self) -> usize
+        ensures { result ≡ length self.now.items }
+    {
+        self.ring.len()
+    }
+
     /// Whether there are fewer tickets than there may be.
     pub fn has_room(&self) -> bool
         ensures { IsTrue result ↔ (length self.now.items < self.now.capacity) }

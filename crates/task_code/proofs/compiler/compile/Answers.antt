@@ -20,15 +20,19 @@ compile_body-requires c =
 
 pub loop-body-preserved : goal.loop-body-preserved
 loop-body-preserved c =
-    let program : Program = c.args.checked.now in
-    subst (λ bodies. Emits [] c.compile_body.new.code.items (λ code. AreStarts program code bodies c.push.new.self.items)) (sym (mapped_more told _ _ c.loop-body-test.true c.body-item.result c.body-item.is))
-    (one_more_start program [] _ _ _ _ _ (told c.body-item.result) c.in_ok-entry.entry c.in_ok-push.ensures.items c.loop-body.invariant c.in_ok-entry.ensures)
+    let program : Program = c.args.checked.now in record {
+      starts = subst (λ bodies. Emits [] c.compile_body.new.code.items (λ code. AreStarts program code bodies c.push.new.self.items)) (sym (mapped_more told _ _ c.loop-body-test.true c.body-item.result c.body-item.is))
+          (one_more_start program [] _ _ _ _ _ (told c.body-item.result) c.in_ok-entry.entry c.in_ok-push.ensures.items c.loop-body.invariant.starts c.in_ok-entry.ensures.code);
+      sized = c.in_ok-entry.ensures.sized.stays c.loop-body.invariant.sized;
+    }
 
 pub returns : goal.returns
 returns c =
     let program : Program = c.args.checked.now in
     let same : map told c.in_ok-bodies.bodies.items ≡ invoked_by program = c.in_ok-bodies.ensures ∙ ap invoked_by c.program.ensures.same in
     let all = ap (map told) (take_all _ _ c.loop-body-test.false ∙ c.as_slice-body-items.ensures.value) ∙ same in
-    rw c.made_of.ensures
-    (entries_are program c.loop-body.instructions.items (invoked_by program) c.loop-body.entries.items
-    (subst (λ bodies. AreStarts program c.loop-body.instructions.items bodies c.loop-body.entries.items) all (c.loop-body.invariant.does c.loop-body.instructions.items (λ at from inside. refl))))
+    rw c.made_of.ensures record {
+      entries = entries_are program c.loop-body.instructions.items (invoked_by program) c.loop-body.entries.items
+          (subst (λ bodies. AreStarts program c.loop-body.instructions.items bodies c.loop-body.entries.items) all (c.loop-body.invariant.starts.does c.loop-body.instructions.items (λ at from inside. refl)));
+      sized = c.loop-body.invariant.sized;
+    }
