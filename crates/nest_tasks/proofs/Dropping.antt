@@ -49,7 +49,7 @@ module _ {B C P Q : Type 0} (m : Setup B C P) (f : P → Q) (stop : Q → Stop Q
   abbrev move : Move B C P → Move B C Q
   move = forget_move f
 
-  seat_same : (seats : List (Seat B P)) (u : ℕ) → seat_at (map seat seats) u ≡ seat (seat_at seats u)
+  pub seat_same : (seats : List (Seat B P)) (u : ℕ) → seat_at (map seat seats) u ≡ seat (seat_at seats u)
   seat_same seats u = get_or-map seat seats u ended_seat
 
   done_same : (seats : List (Seat B P)) (u : ℕ) → done_at (map seat seats) u ≡ done_at seats u

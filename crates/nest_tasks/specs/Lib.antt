@@ -1,1 +1,3 @@
 pub mod Forgetting
+pub mod Carried
+pub mod Longest

@@ -1,0 +1,9 @@
+pub mod Named
+pub mod Begun
+pub mod Realised
+pub mod Right
+pub mod Costs
+pub mod Along
+pub mod Courses
+pub mod Held
+pub mod Walked

@@ -1,0 +1,4 @@
+pub mod Notes
+pub mod Dropping
+pub mod Carrying
+pub mod Costing

@@ -1,0 +1,4 @@
+pub mod Notes
+pub mod Forgetting
+pub mod Carried
+pub mod Costing
