@@ -1,0 +1,16 @@
+pub mod Tallying
+pub mod Choosing
+pub mod Queues
+pub mod Purposes
+pub mod Scheduling
+pub mod Answering
+pub mod Applying
+pub mod Asking
+pub mod Going
+pub mod Waits
+pub mod Histories
+pub mod Places
+pub mod Behind
+pub mod Counts
+pub mod Compiled
+pub mod Claiming

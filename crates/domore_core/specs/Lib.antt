@@ -1,0 +1,14 @@
+pub mod Claims
+pub mod Moves
+pub mod Tickets
+pub mod Hands
+pub mod Stages
+pub mod Reports
+pub mod Tallies
+pub mod Engine
+pub mod Ahead
+pub mod Tables
+pub mod Kept
+pub mod Below
+pub mod Laws
+pub mod Theorems
