@@ -1,5 +1,5 @@
 -- What makes an answer due.
-use Rattle.std.proofs.Common.{◌≡◌, ℕ, ◌+◌, ◌≤◌, ℤ, true, false, List, [], codes, length, Some, Result, Ok, Err, IfOk, MatchResult, refl, sym, subst, arith}
+use Rattle.std.proofs.Common.{◌≡◌, ℕ, ◌+◌, ◌≤◌, ℤ, Bool, true, false, List, codes, length, Option, Some, None, Result, Ok, Err, IfOk, MatchResult, refl, sym, subst, ap, ◌∙◌, arith}
 use Rattle.std.specs.Io.KnownBytes.{Keeps, Consumes}
 use Rattle.nest_syntax.specs.declared.names.NoMemory.{NoMemory}
 use Rattle.nest_syntax.specs.declared.tree.Program.{Program}
@@ -9,16 +9,22 @@ use Rattle.nest_input.specs.declared.refused.Refusal.{Refusal}
 use Rattle.nest_input.specs.Input.{SaysNest, SaysWords}
 use Rattle.first_form.specs.Spelled.{IsSpelledFirst}
 use Rattle.nest_mean.specs.Nest.{Nest}
+use Rattle.progress_board.specs.Options.{IsInRange}
+use Rattle.progress_board.specs.declared.options.Options.{Options}
+use Rattle.progress_board.specs.declared.options.Engine.{Engine}
+use Rattle.progress_board.specs.declared.options.Engine.TheVariants.{Domore, Speccross, Barrier}
 use Rattle.cross_top.specs.declared.status.Status.TheVariants as status
 use Rattle.cross_top.specs.declared.top.Unanswered.{Unanswered}
-use Rattle.cross_top.specs.declared.words.Call.{Call}
-use Rattle.progress_board.specs.declared.options.Options.{Options}
-use Rattle.cross_top.specs.Words.{reads_input}
-use Rattle.cross_top.specs.Answers.{Answer, refusal, refused_answer, RunsAlone, job_of, AnswersAlone, runs, no_form, AnswersData, AnswersProgram, AnswersInput, too_long, a_text}
-use Rattle.cross_top.specs.Ends.{SourceChange, IsDueTo, TakesInput, TakesWhere}
+use Rattle.cross_words.specs.declared.call.Action.{Action}
+use Rattle.cross_words.specs.declared.call.Action.TheVariants.{Plain, Check, Deps, Alone, Replay, Profile, Gen, Big, Run}
+use Rattle.cross_words.specs.declared.call.Call.{Call}
+use Rattle.nest_gen.specs.Generated.{generated}
+use Rattle.cross_top.specs.Words.{Ask, AskToRead, IsRunnable, is_domore, reads_input}
+use Rattle.cross_top.specs.Answers.{Answer, refusal, refused_answer, RunsAlone, job_of, AnswersAlone, runs, no_form, AnswersData, AnswersProgram, AnswersInput, too_long, a_text, Answers, AnswersCall, gen_answer, is_gen}
+use Rattle.cross_top.specs.Ends.{SourceChange, IsDue, IsDueTo, TakesInput, TakesWhere}
 
 -- the answer to a nest that is a program
-pub program_answered : (r : Result Answer NoMemory) (call : Call) (input : List ℕ) (program : Program) → length input ≤ MOST_BYTES → SaysNest input (Ok program) → IfOk r (λ reply. AnswersProgram call.action call.options input program reply) → IfOk r (λ reply. AnswersInput call input reply)
+pub program_answered : (r : Result Answer NoMemory) (call : Call) (input : List ℕ) (program : Program) → length input ≤ MOST_BYTES → SaysNest input (Ok program) → IfOk r (λ reply. AnswersProgram call.action call input program reply) → IfOk r (λ reply. AnswersInput call input reply)
 program_answered (Ok reply) call input program few says h = a_text few (Ok program) says h
 program_answered (Err e) call input program few says h = tt
 
@@ -38,14 +44,14 @@ fault_answered Acts input program why says (Ok reply) h = record { said = Err wh
 fault_answered Acts input program why says (Err e) h = tt
 
 -- what `alone` answers to a program of the first form
-pub form_answered : (r : Result Answer NoMemory) (options : Options) (program : Program) (words : List ℤ) → IsSpelledFirst program → IfOk r (λ reply. RunsAlone options program words reply) → IfOk r (λ reply. AnswersAlone options program words reply)
-form_answered (Ok reply) options program words first h = runs first h
-form_answered (Err e) options program words first h = tt
+pub form_answered : (r : Result Answer NoMemory) (call : Call) (program : Program) (words : List ℤ) → IsSpelledFirst program → IfOk r (λ reply. RunsAlone call program words reply) → IfOk r (λ reply. AnswersAlone call program words reply)
+form_answered (Ok reply) call program words first h = runs first h
+form_answered (Err e) call program words first h = tt
 
 -- and to any other
-pub formless_answered : (r : Result Answer NoMemory) (options : Options) (program : Program) (words : List ℤ) → (IsSpelledFirst program → ⊥) → IfOk r (λ reply. reply ≡ refusal status.TextRefused (codes "form")) → IfOk r (λ reply. AnswersAlone options program words reply)
-formless_answered (Ok reply) options program words none h = no_form none h
-formless_answered (Err e) options program words none h = tt
+pub formless_answered : (r : Result Answer NoMemory) (call : Call) (program : Program) (words : List ℤ) → (IsSpelledFirst program → ⊥) → IfOk r (λ reply. reply ≡ refusal status.TextRefused (codes "form")) → IfOk r (λ reply. AnswersAlone call program words reply)
+formless_answered (Ok reply) call program words none h = no_form none h
+formless_answered (Err e) call program words none h = tt
 
 -- a job has the sizes of its program
 pub own_job : (nest : Nest) → HasLayout nest.opening nest.program.decls → nest ≡ job_of nest.program nest.opening.words
@@ -65,12 +71,61 @@ pub long_is_due : (s : Result Answer Unanswered) (r : Result Answer NoMemory) (c
 long_is_due s (Ok reply) call source e is h more long taken = subst (λ t. IfOk t (λ a. IsAnsweredFrom call source a)) (sym is) (more, record { taken = taken; whole = λ few. absurd (omega (arith, long, few)) }, too_long (omega (arith, long)) h)
 long_is_due s (Err x) call source e is h more long taken = subst (λ t. IfOk t (λ a. IsAnsweredFrom call source a)) (sym is) tt
 
+-- an action that reads doesn't print what is generated
+pub reads_no_gen : (action : Action) → reads_input action ≡ true → is_gen action ≡ false
+reads_no_gen Plain reads = refl
+reads_no_gen Check reads = refl
+reads_no_gen Deps reads = refl
+reads_no_gen Alone reads = refl
+reads_no_gen Replay reads = refl
+reads_no_gen Profile reads = refl
+reads_no_gen Gen reads = sym reads
+reads_no_gen Big reads = refl
+reads_no_gen Run reads = refl
+
 -- what is due to a call that reads an input
 pub read_is_due : (s : Result Answer Unanswered) (call : Call) (source : SourceChange) → reads_input call.action ≡ true → IfOk s (λ reply. IsAnsweredFrom call source reply) → IfOk s (λ reply. IsDueTo (Some call) source reply)
-read_is_due (Ok reply) call source reads from = (from.0, subst (λ b. TakesWhere b source from.0) (sym reads) from.1, from.2)
+read_is_due (Ok reply) call source reads from = (from.0, subst (λ b. TakesWhere b call source from.0) (sym reads) from.1, subst (λ b. AnswersCall b call from.0 reply) (sym (reads_no_gen call.action reads)) from.2)
 read_is_due (Err e) call source reads from = tt
 
 -- and to one that doesn't
-pub unread_is_due : (s : Result Answer Unanswered) (r : Result Answer NoMemory) (call : Call) (source : SourceChange) (e : Unanswered) → MatchResult r (λ reply. s ≡ Ok reply) (λ _. s ≡ Err e) → reads_input call.action ≡ false → Keeps source.old source.new → IfOk r (λ reply. AnswersInput call [] reply) → IfOk s (λ reply. IsDueTo (Some call) source reply)
-unread_is_due s (Ok reply) call source e is none keeps h = subst (λ t. IfOk t (λ a. IsDueTo (Some call) source a)) (sym is) ([], subst (λ b. TakesWhere b source []) (sym none) (keeps, refl), h)
+pub unread_is_due : (s : Result Answer Unanswered) (r : Result Answer NoMemory) (call : Call) (source : SourceChange) (e : Unanswered) → MatchResult r (λ reply. s ≡ Ok reply) (λ _. s ≡ Err e) → reads_input call.action ≡ false → Keeps source.old source.new → IfOk r (λ reply. Answers call (generated call.seed call.size) reply) → IfOk s (λ reply. IsDueTo (Some call) source reply)
+unread_is_due s (Ok reply) call source e is none keeps h = subst (λ t. IfOk t (λ a. IsDueTo (Some call) source a)) (sym is) (generated call.seed call.size, subst (λ b. TakesWhere b call source (generated call.seed call.size)) (sym none) (keeps, refl), h)
 unread_is_due s (Err x) call source e is none keeps h = subst (λ t. IfOk t (λ a. IsDueTo (Some call) source a)) (sym is) tt
+
+-- what is due to words, from what they ask for
+pub asked_is_due : (s : Result Answer Unanswered) (words : List (List ℕ)) (asked : Option Call) (source : SourceChange) → Ask words asked → IfOk s (λ reply. IsDueTo asked source reply) → IfOk s (λ reply. IsDue words source reply)
+asked_is_due (Ok reply) words asked source ask due = (asked, ask, due)
+asked_is_due (Err e) words asked source ask due = tt
+
+-- where they ask for nothing
+pub unasked_is_due : (s : Result Answer Unanswered) (r : Result Answer NoMemory) (words : List (List ℕ)) (source : SourceChange) (e : Unanswered) → MatchResult r (λ reply. s ≡ Ok reply) (λ _. s ≡ Err e) → Ask words None → Keeps source.old source.new
+    → IfOk r (λ reply. reply ≡ refusal status.WordsRefused (codes "words")) → IfOk s (λ reply. IsDue words source reply)
+unasked_is_due s (Ok reply) words source e is ask keeps h = subst (λ t. IfOk t (λ a. IsDue words source a)) (sym is) (None, ask, (keeps, h))
+unasked_is_due s (Err x) words source e is ask keeps h = subst (λ t. IfOk t (λ a. IsDue words source a)) (sym is) tt
+
+unread_at : (words : List (List ℕ)) (call : Call) → Ask words (Some call) → (AskToRead words → ⊥) → (reads : Bool) → reads_input call.action ≡ reads → reads_input call.action ≡ false
+unread_at words call ask none true is = absurd (none (call, ask, is))
+unread_at words call ask none false is = is
+
+-- words that ask for a call, and for none that reads, ask for one that doesn't
+pub asks_unread : (words : List (List ℕ)) (call : Call) → Ask words (Some call) → (AskToRead words → ⊥) → reads_input call.action ≡ false
+asks_unread words call ask none = unread_at words call ask none (reads_input call.action) refl
+
+domore_alone : (e : Engine) → is_domore e ≡ true → e ≡ Domore
+domore_alone Domore is = refl
+domore_alone Speccross is = cc
+domore_alone Barrier is = cc
+
+-- options that an engine stands for are runnable
+pub runs_domore : (options : Options) → IsInRange options → is_domore options.engine ≡ true → IsRunnable options
+runs_domore options allowed is = record { in_range = allowed; engine = domore_alone options.engine is }
+
+-- what is generated is printed
+pub generated_printed : (reply : Answer) (call : Call) (input text : List ℕ) → text ≡ input → is_gen call.action ≡ true → reply ≡ gen_answer text → Answers call input reply
+generated_printed reply call input text same printed is = subst (λ b. AnswersCall b call input reply) (sym printed) (is ∙ ap gen_answer same)
+
+-- or answered as any input
+pub generated_run : (r : Result Answer NoMemory) (call : Call) (input text : List ℕ) → text ≡ input → is_gen call.action ≡ false → IfOk r (λ reply. AnswersInput call text reply) → IfOk r (λ reply. Answers call input reply)
+generated_run (Ok reply) call input text same none h = subst (λ b. AnswersCall b call input reply) (sym none) (subst (λ (i : List ℕ). AnswersInput call i reply) same h)
+generated_run (Err e) call input text same none h = tt

@@ -1,23 +1,22 @@
 -- How a call ends, by its status.
-use Rattle.std.proofs.Common.{◌≡◌, ◌≢◌, ℕ, ◌<◌, ℤ, List, codes, length, Option, Some, None, Result, Ok, Err, refl, sym, subst}
+use Rattle.std.proofs.Common.{◌≡◌, ◌≢◌, ℕ, ◌<◌, ℤ, Bool, true, false, List, [], codes, length, Option, Some, None, Result, Ok, Err, refl, sym, subst, ◌∙◌}
 use Rattle.std.specs.Io.KnownBytes.{Keeps, Appends}
 use Rattle.nest_io.specs.Stream.{AppendsPart}
 use Rattle.nest_syntax.specs.Outcome.{Ending, Done, TrappedAt, ending}
 use Rattle.nest_syntax.specs.declared.tree.Program.{Program}
 use Rattle.cross_top.specs.declared.status.Status.{Status}
 use Rattle.cross_top.specs.declared.status.Status.TheVariants as status
-use Rattle.cross_top.specs.declared.words.Action.{Action}
-use Rattle.cross_top.specs.declared.words.Action.TheVariants.{Plain, Check, Deps, Alone}
-use Rattle.cross_top.specs.declared.words.Call.{Call}
-use Rattle.progress_board.specs.declared.options.Options.{Options}
+use Rattle.cross_words.specs.declared.call.Action.{Action}
+use Rattle.cross_words.specs.declared.call.Action.TheVariants.{Plain, Check, Deps, Alone, Replay, Profile, Gen, Big, Run}
+use Rattle.cross_words.specs.declared.call.Call.{Call}
 use Rattle.word_store.specs.Memory.{Memory}
 use Rattle.nest_input.specs.declared.refused.Refusal.{Refusal}
 use Rattle.nest_mean.specs.Nest.{Nest}
 use Rattle.progress_board.specs.declared.facts.Facts.{Facts}
 use Rattle.domore_engine.specs.Engine.{facts_of}
-use Rattle.cross_top.specs.Words.{call_of}
-use Rattle.cross_top.specs.Answers.{Answer, refusal, refused_answer, printed, reported, rotation_of, job_of, plain_answer, check_answer, deps_answer}
-use Rattle.cross_top.specs.Answers.{AnswersPlain, AnswersAlone, runs, no_form, AnswersWords, AnswersProgram, AnswersNest, AnswersInput, too_long, a_text}
+use Rattle.cross_top.specs.Answers.{Answer, refusal, refused_answer, printed, reported, rotation_of, job_of, plain_answer, check_answer, deps_answer, gen_answer, is_gen}
+use Rattle.cross_top.specs.Answers.{AnswersPlain, AnswersAlone, runs, no_form, AnswersWords, AnswersProgram, AnswersNest, AnswersInput, too_long, a_text, AnswersCall}
+use Rattle.cross_top.specs.Words.{AskToRead}
 use Rattle.cross_top.specs.Ends.{SourceChange, IsDue, IsDueTo, Ends}
 
 -- what is untold or told is kept where nothing happens
@@ -39,9 +38,9 @@ printed_answers : (program : Program) (e : Ending) → IsAnswering (printed prog
 printed_answers program (Done words) = tt
 printed_answers program (TrappedAt place) = tt
 
-reported_answers : (job : Nest) (facts : Facts) (history : List ℕ) (e : Ending) → IsAnswering (reported job facts history e).status
-reported_answers job facts history (Done words) = tt
-reported_answers job facts history (TrappedAt place) = tt
+reported_answers : (call : Call) (job : Nest) (facts : Facts) (history : List ℕ) (e : Ending) → IsAnswering (reported call job facts history e).status
+reported_answers call job facts history (Done words) = tt
+reported_answers call job facts history (TrappedAt place) = tt
 
 -- the status of an answer that is this one
 is_answering : (answer due : Answer) → answer ≡ due → IsAnswering due.status → IsAnswering answer.status
@@ -50,33 +49,57 @@ is_answering answer due is answers = subst (λ (a : Answer). IsAnswering a.statu
 plain_answers : (program : Program) (words : List ℤ) (answer : Answer) → AnswersPlain program words answer → IsAnswering answer.status
 plain_answers program words answer is = is_answering answer (plain_answer program words) is (printed_answers program (ending program words))
 
-alone_answers : (options : Options) (program : Program) (words : List ℤ) (answer : Answer) → AnswersAlone options program words answer → IsAnswering answer.status
-alone_answers options program words answer (runs first run) =
-    let job = job_of program words in let history = rotation_of options job in let facts = facts_of run.complete.last in
-    is_answering answer (reported job facts history (ending program words)) run.is (reported_answers job facts history (ending program words))
-alone_answers options program words answer (no_form none is) = is_answering answer (refusal status.TextRefused (codes "form")) is tt
+alone_answers : (call : Call) (program : Program) (words : List ℤ) (answer : Answer) → AnswersAlone call program words answer → IsAnswering answer.status
+alone_answers call program words answer (runs first run) =
+    let job = job_of program words in let history = rotation_of call.options job in let facts = facts_of run.complete.last in
+    is_answering answer (reported call job facts history (ending program words)) run.is (reported_answers call job facts history (ending program words))
+alone_answers call program words answer (no_form none is) = is_answering answer (refusal status.TextRefused (codes "form")) is tt
 
 words_answers : (Acts : List ℤ → Answer → Type 0) → ((words : List ℤ) (answer : Answer) → Acts words answer → IsAnswering answer.status) → (said : Result Memory Refusal) (answer : Answer) → AnswersWords Acts said answer → IsAnswering answer.status
 words_answers Acts acts (Ok memory) answer is = acts memory.words answer is
 words_answers Acts acts (Err why) answer is = is_answering answer (refused_answer why) is tt
 
-program_answers : (action : Action) (options : Options) (input : List ℕ) (program : Program) (answer : Answer) → AnswersProgram action options input program answer → IsAnswering answer.status
-program_answers Plain options input program answer is = words_answers (AnswersPlain program) (plain_answers program) is.said answer is.answers
-program_answers Check options input program answer is = is_answering answer (check_answer program) is tt
-program_answers Deps options input program answer is = is_answering answer (deps_answer program) is tt
-program_answers Alone options input program answer is = words_answers (AnswersAlone options program) (alone_answers options program) is.said answer is.answers
+program_answers : (action : Action) (call : Call) (input : List ℕ) (program : Program) (answer : Answer) → AnswersProgram action call input program answer → IsAnswering answer.status
+program_answers Plain call input program answer is = words_answers (AnswersPlain program) (plain_answers program) is.said answer is.answers
+program_answers Check call input program answer is = is_answering answer (check_answer program) is tt
+program_answers Deps call input program answer is = is_answering answer (deps_answer program) is tt
+program_answers Alone call input program answer is = words_answers (AnswersAlone call program) (alone_answers call program) is.said answer is.answers
+program_answers Big call input program answer is = words_answers (AnswersAlone call program) (alone_answers call program) is.said answer is.answers
+program_answers Gen call input program answer is = absurd is
+program_answers Replay call input program answer is = absurd is
+program_answers Profile call input program answer is = absurd is
+program_answers Run call input program answer is = absurd is
 
 nest_answers : (call : Call) (input : List ℕ) (said : Result Program Refusal) (answer : Answer) → AnswersNest call input said answer → IsAnswering answer.status
-nest_answers call input (Ok program) answer is = program_answers call.action call.options input program answer is
+nest_answers call input (Ok program) answer is = program_answers call.action call input program answer is
 nest_answers call input (Err why) answer is = is_answering answer (refused_answer why) is tt
 
 input_answers : (call : Call) (input : List ℕ) (answer : Answer) → AnswersInput call input answer → IsAnswering answer.status
 input_answers call input answer (too_long long is) = is_answering answer (refusal status.TextRefused (codes "too long")) is tt
 input_answers call input answer (a_text few said says is) = nest_answers call input said answer is
 
+call_answers : (generates : Bool) (call : Call) (input : List ℕ) (answer : Answer) → AnswersCall generates call input answer → IsAnswering answer.status
+call_answers true call input answer is = is_answering answer (gen_answer input) is tt
+call_answers false call input answer is = input_answers call input answer is
+
 due_answers : (asked : Option Call) (source : SourceChange) (answer : Answer) → IsDueTo asked source answer → IsAnswering answer.status
 due_answers None source answer due = is_answering answer (refusal status.WordsRefused (codes "words")) due.1 tt
-due_answers (Some call) source answer due = input_answers call due.0 answer due.2
+due_answers (Some call) source answer due = call_answers (is_gen call.action) call due.0 answer due.2
+
+-- an answer that is due isn't cut by itself
+pub due_is_whole : (words : List (List ℕ)) (source : SourceChange) (answer : Answer) → IsDue words source answer → answer.status ≢ status.WriteFault
+due_is_whole words source answer due cut = subst IsAnswering cut (due_answers due.0 source answer due.2)
+
+-- a call that ends at a fault of reading
+pub ends_unread : (words : List (List ℕ)) (source : SourceChange) (sink : Option (List ℕ)) (HasRoom : ℕ → Type 0) (s : Status) (history : List ℕ) → s ≡ status.ReadFault → history ≡ [] → AskToRead words → Ends words source sink sink HasRoom s history
+ends_unread words source sink HasRoom s history is none asks = subst (λ (x : Status). Ends words source sink sink HasRoom x history) (sym is) (asks, kept sink, none)
+
+-- an answer that is due is never ended as a failed read
+pub never_read : (words : List (List ℕ)) (source : SourceChange) (sink sink' : Option (List ℕ)) (answer : Answer) (s : Status) → IsDue words source answer
+    → (s ≢ status.WriteFault → (s ≡ answer.status) × Appends sink sink' answer.bytes) → s ≡ status.ReadFault → ⊥
+never_read words source sink sink' answer s due written read =
+    let w = written (λ e. let no : status.ReadFault ≡ status.WriteFault = sym read ∙ e in cc) in
+    subst IsAnswering (sym w.0 ∙ read) (due_answers due.0 source answer due.2)
 
 -- an answer that was written, or cut
 module _ (words : List (List ℕ)) (source : SourceChange) (sink sink' : Option (List ℕ)) (HasRoom : ℕ → Type 0) (answer : Answer) where
@@ -88,6 +111,6 @@ module _ (words : List (List ℕ)) (source : SourceChange) (sink sink' : Option 
   ends_written status.Trapped due written cut = let w = written (λ e. cc) in (answer, due, sym w.0, refl, w.1)
   ends_written status.WordsRefused due written cut = let w = written (λ e. cc) in (answer, due, sym w.0, refl, w.1)
   ends_written status.TextRefused due written cut = let w = written (λ e. cc) in (answer, due, sym w.0, refl, w.1)
-  ends_written status.ReadFault due written cut = absurd (subst IsAnswering (sym (written (λ e. cc)).0) (due_answers (call_of words) source answer due))
-  ends_written status.NoMemory due written cut = absurd (subst IsAnswering (sym (written (λ e. cc)).0) (due_answers (call_of words) source answer due))
-  ends_written status.WriteFault due written cut = let c = cut refl (λ e. subst IsAnswering e (due_answers (call_of words) source answer due)) in (answer, due, refl, c.0, c.1)
+  ends_written status.ReadFault due written cut = absurd (subst IsAnswering (sym (written (λ e. cc)).0) (due_answers due.0 source answer due.2))
+  ends_written status.NoMemory due written cut = absurd (subst IsAnswering (sym (written (λ e. cc)).0) (due_answers due.0 source answer due.2))
+  ends_written status.WriteFault due written cut = let c = cut refl (due_is_whole words source answer due) in (answer, due, refl, c.0, c.1)

@@ -1,5 +1,5 @@
 -- What an action answers: the status that it ends with and the bytes that it prints.
-use Rattle.std.specs.Prelude.{◌≡◌, ℕ, ◌≤◌, ◌<◌, ℤ, Result, Ok, Err, List, [], ◌∷◌, ◌++◌, codes, length}
+use Rattle.std.specs.Prelude.{◌≡◌, ℕ, ◌≤◌, ◌<◌, ℤ, Bool, true, false, if◌then◌else◌, Result, Ok, Err, List, [], ◌∷◌, ◌++◌, codes, length}
 use Rattle.nest_syntax.specs.declared.tree.Program.{Program}
 use Rattle.nest_syntax.specs.Arrays.{arrays_of, sizes_of}
 use Rattle.nest_syntax.specs.FirstForm.{IsFirstForm}
@@ -10,14 +10,16 @@ use Rattle.nest_input.specs.declared.refused.Refusal.{Refusal}
 use Rattle.nest_input.specs.Input.{SaysNest, SaysWords}
 use Rattle.nest_print.specs.Canonical.{canonical_text}
 use Rattle.first_form.specs.Spelled.{IsSpelledFirst}
+use Rattle.nest_data.specs.Sum.{written_words, sum_of}
 use Rattle.nest_data.specs.Text.{array_lines}
 use Rattle.nest_report.specs.Text.{trap_line}
 use Rattle.nest_report.specs.Deps.{deps_text}
+use Rattle.nest_report.specs.Steps.{steps_text}
 use Rattle.cross_top.specs.declared.status.Status.{Status}
 use Rattle.cross_top.specs.declared.status.Status.TheVariants as status
-use Rattle.cross_top.specs.declared.words.Action.{Action}
-use Rattle.cross_top.specs.declared.words.Action.TheVariants.{Plain, Check, Deps, Alone}
-use Rattle.cross_top.specs.declared.words.Call.{Call}
+use Rattle.cross_words.specs.declared.call.Action.{Action}
+use Rattle.cross_words.specs.declared.call.Action.TheVariants.{Plain, Check, Deps, Alone, Replay, Profile, Gen, Big, Run}
+use Rattle.cross_words.specs.declared.call.Call.{Call}
 use Rattle.nest_mean.specs.Nest.{Nest}
 use Rattle.settle_law.specs.Runs.{IsComplete}
 use Rattle.progress_board.specs.declared.options.Options.{Options}
@@ -27,7 +29,7 @@ use Rattle.progress_board.specs.Actors.{actors_of}
 use Rattle.progress_board.specs.Rotation.{rotation}
 use Rattle.domore_engine.specs.Engine.{opening, step, measure, is_finished, facts_of}
 use Rattle.domore_engine.specs.Theorems.{facts_due}
-use Rattle.cross_top.specs.Report.{domore_report}
+use Rattle.nest_report.specs.Report.{report_text, summary_text}
 use Rattle.cross_top.specs.Refusals.{reason_text}
 
 -- the status, the bytes, and the steps that an engine made
@@ -53,16 +55,39 @@ job_of program words = record { program = program; opening = record { sizes = si
 abbrev pub rotation_of : Options → Nest → List ℕ
 rotation_of options job = rotation step measure (opening job options) (actors_of options) []
 
--- the outcome of a job with the report of an engine's facts, and the steps that it made
-abbrev pub reported : Nest → Facts → List ℕ → Ending → Answer
-reported job facts history (Done words) = record { status = status.Done; bytes = array_lines job.program.names (record { sizes = job.opening.sizes; words = words }) 0 job.program.decls ++ domore_report facts; history = history }
-reported job facts history (TrappedAt place) = record { status = status.Trapped; bytes = trap_line place; history = history }
+-- whether an action tells of a run its sum alone, and no steps
+abbrev pub is_summary : Action → Bool
+is_summary Big = true
+is_summary _ = false
 
--- The answer of a run with these steps: they are a complete history for the job and the options, and what is printed is
--- the outcome of textual order, with the facts of that history.
-pub record AnswersRun (job : Nest) (options : Options) (history : List ℕ) (answer : Answer) : Type 0 where
-  pub complete : IsComplete step is_finished (opening job options) history
-  pub is : answer ≡ reported job (facts_of complete.last) history (ending job.program job.opening.words)
+-- what is told of final words with an engine's facts: the arrays and the report, or the summary
+abbrev pub done_text : Call → Program → Memory → Facts → List ℕ
+done_text call program memory facts =
+    if is_summary call.action then summary_text call.seed call.size facts (sum_of (written_words memory 0 program.decls))
+    else array_lines program.names memory 0 program.decls ++ report_text program facts
+
+-- the steps that are told: all, but of a summary none
+abbrev pub told_steps : Call → List ℕ → List ℕ
+told_steps call history = if is_summary call.action then [] else history
+
+-- and their text, where the words ask for it
+abbrev pub steps_part : Call → List ℕ → List ℕ
+steps_part call history = if is_summary call.action then [] else (if call.with_steps then steps_text history else [])
+
+-- a run that ended so, with this text and these steps
+abbrev pub ended : Call → Status → List ℕ → List ℕ → Answer
+ended call status text history = record { status = status; bytes = text ++ steps_part call history; history = told_steps call history }
+
+-- the outcome of a job with an engine's facts, and the steps that it made
+abbrev pub reported : Call → Nest → Facts → List ℕ → Ending → Answer
+reported call job facts history (Done words) = ended call status.Done (done_text call job.program (record { sizes = job.opening.sizes; words = words }) facts) history
+reported call job facts history (TrappedAt place) = ended call status.Trapped (trap_line place) history
+
+-- The answer of a run with these steps: they are a complete history for the job and the options, and what is told is the
+-- outcome of textual order, with the facts of that history.
+pub record AnswersRun (call : Call) (job : Nest) (history : List ℕ) (answer : Answer) : Type 0 where
+  pub complete : IsComplete step is_finished (opening job call.options) history
+  pub is : answer ≡ reported call job (facts_of complete.last) history (ending job.program job.opening.words)
 
 -- what `plain` answers to a program on these opening words: the outcome of textual order
 abbrev pub plain_answer : Program → List ℤ → Answer
@@ -76,9 +101,13 @@ check_answer program = record { status = status.Done; bytes = canonical_text pro
 abbrev pub deps_answer : Program → Answer
 deps_answer program = record { status = status.Done; bytes = deps_text program; history = [] }
 
--- what `alone` answers to a program of the first form on these opening words: a run by the rotation
-abbrev pub RunsAlone : Options → Program → List ℤ → Answer → Type 0
-RunsAlone options program words answer = AnswersRun (job_of program words) options (rotation_of options (job_of program words)) answer
+-- what `gen` answers: the text that is generated
+abbrev pub gen_answer : List ℕ → Answer
+gen_answer text = record { status = status.Done; bytes = text; history = [] }
+
+-- what `alone` and `big` answer to a program of the first form on these opening words: a run by the rotation
+abbrev pub RunsAlone : Call → Program → List ℤ → Answer → Type 0
+RunsAlone call program words answer = AnswersRun call (job_of program words) (rotation_of call.options (job_of program words)) answer
 
 -- the answer to an input that is refused
 abbrev pub refused_answer : Refusal → Answer
@@ -88,10 +117,10 @@ refused_answer why = refusal status.TextRefused (reason_text why)
 abbrev pub AnswersPlain : Program → List ℤ → Answer → Type 0
 AnswersPlain program words answer = answer ≡ plain_answer program words
 
--- `alone` runs the programs of the first form, and refuses each other one
-pub data AnswersAlone (options : Options) (program : Program) (words : List ℤ) (answer : Answer) : Type 0 where
-  runs : IsSpelledFirst program → RunsAlone options program words answer → AnswersAlone options program words answer
-  no_form : (IsSpelledFirst program → ⊥) → answer ≡ refusal status.TextRefused (codes "form") → AnswersAlone options program words answer
+-- they run the programs of the first form, and refuse each other one
+pub data AnswersAlone (call : Call) (program : Program) (words : List ℤ) (answer : Answer) : Type 0 where
+  runs : IsSpelledFirst program → RunsAlone call program words answer → AnswersAlone call program words answer
+  no_form : (IsSpelledFirst program → ⊥) → answer ≡ refusal status.TextRefused (codes "form") → AnswersAlone call program words answer
 
 -- what is answered to what the data lines say, by an action that answers so to the words of a program
 abbrev pub AnswersWords : (List ℤ → Answer → Type 0) → Result Memory Refusal → Answer → Type 0
@@ -104,27 +133,46 @@ pub record AnswersData (Acts : List ℤ → Answer → Type 0) (input : List ℕ
   pub says : SaysWords input program said
   pub answers : AnswersWords Acts said answer
 
--- what an action with these options answers to an input with this program; `check` and `deps` don't look at the data lines
-abbrev pub AnswersProgram : Action → Options → List ℕ → Program → Answer → Type 0
-AnswersProgram Plain options input program answer = AnswersData (AnswersPlain program) input program answer
-AnswersProgram Check options input program answer = answer ≡ check_answer program
-AnswersProgram Deps options input program answer = answer ≡ deps_answer program
-AnswersProgram Alone options input program answer = AnswersData (AnswersAlone options program) input program answer
+-- What an action answers to an input with this program. `check` and `deps` don't look at the data lines. `gen` reads none,
+-- and the last three are never asked for.
+abbrev pub AnswersProgram : Action → Call → List ℕ → Program → Answer → Type 0
+AnswersProgram Plain call input program answer = AnswersData (AnswersPlain program) input program answer
+AnswersProgram Check call input program answer = answer ≡ check_answer program
+AnswersProgram Deps call input program answer = answer ≡ deps_answer program
+AnswersProgram Alone call input program answer = AnswersData (AnswersAlone call program) input program answer
+AnswersProgram Big call input program answer = AnswersData (AnswersAlone call program) input program answer
+AnswersProgram Gen call input program answer = ⊥
+AnswersProgram Replay call input program answer = ⊥
+AnswersProgram Profile call input program answer = ⊥
+AnswersProgram Run call input program answer = ⊥
 
 -- what a call answers to what the nest of an input says
 abbrev pub AnswersNest : Call → List ℕ → Result Program Refusal → Answer → Type 0
 AnswersNest call input (Err why) answer = answer ≡ refused_answer why
-AnswersNest call input (Ok program) answer = AnswersProgram call.action call.options input program answer
+AnswersNest call input (Ok program) answer = AnswersProgram call.action call input program answer
 
 -- what a call answers to an input: that it is too long, or what it answers to what its nest says
 pub data AnswersInput (call : Call) (input : List ℕ) (answer : Answer) : Type 0 where
   too_long : MOST_BYTES < length input → answer ≡ refusal status.TextRefused (codes "too long") → AnswersInput call input answer
   a_text : length input ≤ MOST_BYTES → (said : Result Program Refusal) → SaysNest input said → AnswersNest call input said answer → AnswersInput call input answer
 
+-- What a call answers to its input, which is what was read, or for an action that reads nothing what is generated: `gen`
+-- prints it, and each other action does what it does with an input.
+abbrev pub AnswersCall : Bool → Call → List ℕ → Answer → Type 0
+AnswersCall true call input answer = answer ≡ gen_answer input
+AnswersCall false call input answer = AnswersInput call input answer
+
+abbrev pub is_gen : Action → Bool
+is_gen Gen = true
+is_gen _ = false
+
+abbrev pub Answers : Call → List ℕ → Answer → Type 0
+Answers call input answer = AnswersCall (is_gen call.action) call input answer
+
 -- With the same steps, an input has one answer.
 abbrev pub OneAnswer : Type 0
-OneAnswer = (call : Call) (input : List ℕ) (answer other : Answer) → answer.history ≡ other.history → AnswersInput call input answer → AnswersInput call input other → answer ≡ other
+OneAnswer = (call : Call) (input : List ℕ) (answer other : Answer) → answer.history ≡ other.history → Answers call input answer → Answers call input other → answer ≡ other
 
 -- The facts of a run of a job that doesn't trap are those that are due, whatever its history.
 abbrev pub FactsAreDue : Type 0
-FactsAreDue = (job : Nest) (options : Options) → IsFirstForm job.program → IsInRange options → (history : List ℕ) (answer : Answer) (run : AnswersRun job options history answer) (words : List ℤ) → ending job.program job.opening.words ≡ Done words → facts_of run.complete.last ≡ facts_due job options
+FactsAreDue = (call : Call) (job : Nest) → IsFirstForm job.program → IsInRange call.options → (history : List ℕ) (answer : Answer) (run : AnswersRun call job history answer) (words : List ℤ) → ending job.program job.opening.words ≡ Done words → facts_of run.complete.last ≡ facts_due job call.options

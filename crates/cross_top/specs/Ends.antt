@@ -1,13 +1,14 @@
 -- How a call ends, over what its source tells of the bytes to come and its sink of the bytes written.
-use Rattle.std.specs.Prelude.{◌≡◌, ℕ, ◌≤◌, ◌<◌, Bool, true, false, Option, Some, None, IsSome, List, [], codes, length}
+use Rattle.std.specs.Prelude.{◌≡◌, ℕ, ◌≤◌, ◌<◌, Bool, true, false, Option, Some, None, List, [], codes, length}
 use Rattle.std.specs.Io.KnownBytes.{Keeps, Consumes, Appends, IsAtEnd}
 use Rattle.nest_io.specs.Stream.{AppendsPart}
 use Rattle.nest_io.specs.declared.transfer.TheConstants.{MOST_BYTES}
 use Rattle.cross_top.specs.declared.status.Status.{Status}
 use Rattle.cross_top.specs.declared.status.Status.TheVariants as status
-use Rattle.cross_top.specs.declared.words.Call.{Call}
-use Rattle.cross_top.specs.Words.{call_of, reads_input}
-use Rattle.cross_top.specs.Answers.{Answer, refusal, AnswersInput}
+use Rattle.cross_words.specs.declared.call.Call.{Call}
+use Rattle.nest_gen.specs.Generated.{generated}
+use Rattle.cross_top.specs.Words.{Ask, AskToRead, reads_input}
+use Rattle.cross_top.specs.Answers.{Answer, refusal, Answers}
 
 -- What became of a source: what it tells of the bytes to come, before and behind, and whether its end was answered.
 pub record SourceChange : Type 0 where
@@ -20,20 +21,20 @@ pub record TakesInput (source : SourceChange) (input : List ℕ) : Type 0 where
   pub taken : Consumes source.old source.new input
   pub whole : length input ≤ MOST_BYTES → (source.ended ≡ true) × IsAtEnd source.new
 
--- what is the input of an action that reads one, and of one that doesn't, which has none
-abbrev pub TakesWhere : Bool → SourceChange → List ℕ → Type 0
-TakesWhere true source input = TakesInput source input
-TakesWhere false source input = Keeps source.old source.new × (input ≡ [])
+-- what is the input of an action that reads one, and of one that doesn't: what its seed and size generate
+abbrev pub TakesWhere : Bool → Call → SourceChange → List ℕ → Type 0
+TakesWhere true call source input = TakesInput source input
+TakesWhere false call source input = Keeps source.old source.new × (input ≡ generated call.seed call.size)
 
 -- what is due where the words ask for this call, with what became of the source
 abbrev pub IsDueTo : Option Call → SourceChange → Answer → Type 0
 IsDueTo None source answer = Keeps source.old source.new × (answer ≡ refusal status.WordsRefused (codes "words"))
-IsDueTo (Some call) source answer = (input : List ℕ) × TakesWhere (reads_input call.action) source input × AnswersInput call input answer
+IsDueTo (Some call) source answer = (input : List ℕ) × TakesWhere (reads_input call.action) call source input × Answers call input answer
 
 -- The answer that is due: for refused words their refusal, and the source is as it was; else what the call answers to
--- the bytes that were read.
+-- the bytes that were read or generated.
 abbrev pub IsDue : List (List ℕ) → SourceChange → Answer → Type 0
-IsDue words source answer = IsDueTo (call_of words) source answer
+IsDue words source answer = (asked : Option Call) × Ask words asked × IsDueTo asked source answer
 
 -- the answer that is due has this status and these steps, and was written, all of it
 abbrev pub IsWritten : List (List ℕ) → SourceChange → (sink sink' : Option (List ℕ)) → Status → List ℕ → Type 0
@@ -51,6 +52,6 @@ Ends words source sink sink' HasRoom status.Done history = IsWritten words sourc
 Ends words source sink sink' HasRoom status.Trapped history = IsWritten words source sink sink' status.Trapped history
 Ends words source sink sink' HasRoom status.WordsRefused history = IsWritten words source sink sink' status.WordsRefused history
 Ends words source sink sink' HasRoom status.TextRefused history = IsWritten words source sink sink' status.TextRefused history
-Ends words source sink sink' HasRoom status.ReadFault history = IsSome (call_of words) × Keeps sink sink' × (history ≡ [])
+Ends words source sink sink' HasRoom status.ReadFault history = AskToRead words × Keeps sink sink' × (history ≡ [])
 Ends words source sink sink' HasRoom status.WriteFault history = IsCut words source sink sink' HasRoom history
 Ends words source sink sink' HasRoom status.NoMemory history = Keeps sink sink' × (history ≡ [])

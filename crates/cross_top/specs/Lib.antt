@@ -1,6 +1,5 @@
 pub mod Exit
 pub mod Words
-pub mod Report
 pub mod Refusals
 pub mod Answers
 pub mod Rotated

@@ -1,41 +1,55 @@
--- The command words, and what they say.
-use Rattle.std.specs.Prelude.{◌≡◌, ℕ, Bool, true, false, Option, Some, None, List, [], ◌∷◌, codes, if◌then◌else◌}
-use Rattle.std.specs.Option.{option_map}
-use Rattle.std.specs.Str.{bytes_eq}
-use Rattle.progress_board.specs.Options.{IsInRange}
+-- What the command words ask the program for.
+use Rattle.std.specs.Prelude.{◌≡◌, ℕ, Bool, true, false, Option, Some, None, List}
+use Rattle.progress_board.specs.Options as ranges
 use Rattle.progress_board.specs.declared.options.Options.{Options}
-use Rattle.progress_board.specs.declared.options.Engine.TheVariants.{Domore}
-use Rattle.progress_board.specs.declared.options.Sign.TheVariants.{Range}
-use Rattle.cross_top.specs.declared.words.Action.{Action}
-use Rattle.cross_top.specs.declared.words.Action.TheVariants.{Plain, Check, Deps, Alone}
-use Rattle.cross_top.specs.declared.words.Call.{Call}
-
--- how an engine runs where the words don't say: two workers, queues of 16
-abbrev pub default_options : Options
-default_options = record { engine = Domore; workers = 2; queue = 16; sign = Range; segment = 16; distance = 4 }
-
--- an action by its name alone
-abbrev pub call_by_name : Action → Call
-call_by_name action = record { action = action; options = default_options; size = 64; seed = 1; with_steps = false }
-
--- the action with this name
-abbrev pub action_named : List ℕ → Option Action
-action_named word = if bytes_eq word (codes "plain") then Some Plain else (if bytes_eq word (codes "check") then Some Check else (if bytes_eq word (codes "deps") then Some Deps else (if bytes_eq word (codes "alone") then Some Alone else None)))
-
--- what the words ask for, none where they aren't in the table
-abbrev pub call_of : List (List ℕ) → Option Call
-call_of [] = None
-call_of (word ∷ []) = option_map call_by_name (action_named word)
-call_of (word ∷ other ∷ more) = None
+use Rattle.progress_board.specs.declared.options.Engine.{Engine}
+use Rattle.progress_board.specs.declared.options.Engine.TheVariants.{Domore, Speccross, Barrier}
+use Rattle.cross_words.specs.declared.call.Action.{Action}
+use Rattle.cross_words.specs.declared.call.Action.TheVariants.{Plain, Check, Deps, Alone, Replay, Profile, Gen, Big, Run}
+use Rattle.cross_words.specs.declared.call.Call.{Call}
+use Rattle.cross_words.specs.Table.{Say}
+use Rattle.cross_words.specs.Ranges.{IsInRange}
 
 -- whether an action reads an input
 abbrev pub reads_input : Action → Bool
-reads_input Plain = true
-reads_input Check = true
-reads_input Deps = true
-reads_input Alone = true
+reads_input Gen = false
+reads_input Big = false
+reads_input _ = true
+
+-- the engine that stands
+abbrev pub is_domore : Engine → Bool
+is_domore Domore = true
+is_domore Speccross = false
+is_domore Barrier = false
+
+-- Whether an action by an engine is answered. The words for any other are refused: no engine but `domore` stands, nor what
+-- `replay` and `profile` need, and `run` has threads, while this call waits for nobody.
+abbrev pub is_answered : Action → Engine → Bool
+is_answered Plain engine = true
+is_answered Check engine = true
+is_answered Deps engine = true
+is_answered Gen engine = true
+is_answered Alone engine = is_domore engine
+is_answered Big engine = is_domore engine
+is_answered Replay engine = false
+is_answered Profile engine = false
+is_answered Run engine = false
+
+-- What words ask for: the call that they say, where it is answered, or nothing, where they say no such call.
+abbrev pub Ask : List (List ℕ) → Option Call → Type 0
+Ask words (Some call) = Say words call × (is_answered call.action call.options.engine ≡ true)
+Ask words None = (call : Call) → Say words call → is_answered call.action call.options.engine ≡ false
+
+-- words that ask for an action that reads an input
+abbrev pub AskToRead : List (List ℕ) → Type 0
+AskToRead words = (call : Call) × Ask words (Some call) × (reads_input call.action ≡ true)
+
+-- a call that words may ask for
+pub record IsAnswerable (call : Call) : Type 0 where
+  pub in_range : IsInRange call
+  pub answered : is_answered call.action call.options.engine ≡ true
 
 -- options that the engine runs with
 pub record IsRunnable (options : Options) : Type 0 where
-  pub in_range : IsInRange options
+  pub in_range : ranges.IsInRange options
   pub engine : options.engine ≡ Domore

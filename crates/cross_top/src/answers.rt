@@ -1,22 +1,24 @@
-ghost use Rattle.std.specs.Prelude.{◌≡◌, ◌≤◌, IfOk, length};
+ghost use Rattle.std.specs.Prelude.{◌≡◌, ◌≤◌, true, false, IfOk, length};
 ghost use Rattle.nest_io.specs.declared.transfer.TheConstants.{MOST_BYTES};
-ghost use Rattle.cross_top.specs.Answers.{refusal, refused_answer, plain_answer, check_answer, deps_answer};
-ghost use Rattle.cross_top.specs.Answers.{AnswersInput, AnswersProgram, AnswersData, AnswersPlain, AnswersAlone};
-ghost use Rattle.cross_top.specs.Words.{IsRunnable};
+ghost use Rattle.nest_gen.specs.Generated.{generated};
+ghost use Rattle.cross_top.specs.Answers.{refusal, refused_answer, plain_answer, check_answer, deps_answer, gen_answer};
+ghost use Rattle.cross_top.specs.Answers.{Answers, AnswersInput, AnswersProgram, AnswersData, AnswersPlain, AnswersAlone, is_gen};
+ghost use Rattle.progress_board.specs.Options.{IsInRange};
+ghost use Rattle.cross_top.specs.Words.{IsAnswerable, IsRunnable, is_answered};
 
 use crate::alone::alone;
 use crate::refusals::reason_text;
 use crate::status::Status;
-use crate::words::{Action, Call};
+use cross_words::{Action, Call};
 use first_form::is_first_form;
 use nest_check::Checked;
 use nest_data::print_words;
+use nest_gen::generate;
 use nest_input::{InputRefused, Refusal, read_nest, read_words};
 use nest_mean::{Job, Outcome, run_plain};
 use nest_print::print_program;
 use nest_report::{print_deps, print_place};
 use nest_syntax::NoMemory;
-use progress_board::Options;
 use std::alloc::Global;
 use std::marker::Model;
 
@@ -58,36 +60,76 @@ fn refused(alloc: Global, why: Refusal) -> Result<Reply, NoMemory>
     refusal(alloc, Status::TextRefused, reason.as_slice())
 }
 
+/// What a call that reads nothing answers: `gen` prints the input that is generated, `big` runs it.
+pub fn answer_generated(alloc: Global, call: &Call) -> Result<Reply, NoMemory>
+    requires { IsAnswerable call.now }
+    ensures { IfOk result (λ reply. Answers call.now (generated call.now.seed call.now.size) reply) }
+{
+    let text = generate(alloc, call.seed, call.size)?;
+    if is_gen(call.action) {
+        Ok(done(alloc, text))
+    } else {
+        answer_input(alloc, call, text.as_slice())
+    }
+}
+
+/// Whether an action prints what is generated.
+fn is_gen(action: Action) -> bool
+    ensures { result ≡ is_gen action }
+{
+    matches!(action, Action::Gen)
+}
+
+/// A text that is done, of no engine.
+fn done(alloc: Global, text: Vec<u8>) -> Reply
+    ensures { result ≡ gen_answer text.items }
+{
+    Reply {
+        status: Status::Done,
+        text,
+        history: Vec::new(alloc),
+    }
+}
+
 /// What a call answers to an input.
-pub fn answer_input(alloc: Global, call: Call, input: &[u8]) -> Result<Reply, NoMemory>
+pub fn answer_input(alloc: Global, call: &Call, input: &[u8]) -> Result<Reply, NoMemory>
     requires few { length input.now ≤ MOST_BYTES }
-    requires runs { IsRunnable call.options }
-    ensures { IfOk result (λ reply. AnswersInput call input.now reply) }
+    requires answerable { IsAnswerable call.now }
+    requires no_gen { is_gen call.now.action ≡ false }
+    ensures { IfOk result (λ reply. AnswersInput call.now input.now reply) }
 {
     match read_nest(alloc, input) {
-        Ok(checked) => answer_program(alloc, call.action, call.options, input, checked),
+        Ok(checked) => answer_program(alloc, call.action, call, input, checked),
         Err(InputRefused::Refused(why)) => refused(alloc, why),
         Err(InputRefused::NoMemory) => Err(NoMemory),
     }
 }
 
-/// What an action with these options answers to an input with this program.
+/// What a call of this action answers to an input with this program.
+#[tactic(auto, using(crate::proofs::Replies::runs_domore))]
 fn answer_program(
     alloc: Global,
     action: Action,
-    options: Options,
+    call: &Call,
     input: &[u8],
     checked: Checked,
 ) -> Result<Reply, NoMemory>
     requires few { length input.now ≤ MOST_BYTES }
-    requires runs { IsRunnable options }
-    ensures { IfOk result (λ reply. AnswersProgram action options input.now checked reply) }
+    requires in_range { IsInRange call.now.options }
+    requires answered { is_answered action call.now.options.engine ≡ true }
+    requires no_gen { is_gen action ≡ false }
+    ensures { IfOk result (λ reply. AnswersProgram action call.now input.now checked reply) }
 {
     match action {
         Action::Plain => plain_of(alloc, input, checked),
         Action::Check => canonical(alloc, &checked),
         Action::Deps => kinds(alloc, &checked),
-        Action::Alone => alone_of(alloc, options, input, checked),
+        Action::Alone => alone_of(alloc, call, input, checked),
+        Action::Big => alone_of(alloc, call, input, checked),
+        Action::Gen => unreachable!(),
+        Action::Replay => unreachable!(),
+        Action::Profile => unreachable!(),
+        Action::Run => unreachable!(),
     }
 }
 
@@ -127,31 +169,26 @@ fn plain_of(alloc: Global, input: &[u8], checked: Checked) -> Result<Reply, NoMe
     }
 }
 
-/// What `alone` answers to an input with this program.
-fn alone_of(
-    alloc: Global,
-    options: Options,
-    input: &[u8],
-    checked: Checked,
-) -> Result<Reply, NoMemory>
+/// What `alone` or `big` answers to an input with this program.
+fn alone_of(alloc: Global, call: &Call, input: &[u8], checked: Checked) -> Result<Reply, NoMemory>
     requires few { length input.now ≤ MOST_BYTES }
-    requires runs { IsRunnable options }
-    ensures { IfOk result (λ reply. AnswersData (AnswersAlone options checked) input.now checked reply) }
+    requires runs { IsRunnable call.now.options }
+    ensures { IfOk result (λ reply. AnswersData (AnswersAlone call.now checked) input.now checked reply) }
 {
     match read_words(alloc, input, &checked) {
-        Ok(words) => alone_or_refused(alloc, options, Job::new(checked, words)),
+        Ok(words) => alone_or_refused(alloc, call, Job::new(checked, words)),
         Err(InputRefused::Refused(why)) => refused(alloc, why),
         Err(InputRefused::NoMemory) => Err(NoMemory),
     }
 }
 
 /// The outcome by the engine, where the program is of the first form.
-fn alone_or_refused(alloc: Global, options: Options, job: Job) -> Result<Reply, NoMemory>
-    requires { IsRunnable options }
-    ensures { IfOk result (λ reply. AnswersAlone options job.program job.opening.words reply) }
+fn alone_or_refused(alloc: Global, call: &Call, job: Job) -> Result<Reply, NoMemory>
+    requires { IsRunnable call.now.options }
+    ensures { IfOk result (λ reply. AnswersAlone call.now job.program job.opening.words reply) }
 {
     if is_first_form(job.checked().program()) {
-        alone(alloc, options, job)
+        alone(alloc, call, job)
     } else {
         refusal(alloc, Status::TextRefused, b"form")
     }

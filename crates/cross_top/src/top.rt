@@ -1,14 +1,15 @@
-ghost use Rattle.std.specs.Prelude.{◌≡◌, ◌≢◌, ◌<◌, false, [], ℕ, List, Some, None, IsSome, IsErrOf, IfOk, MatchResult, length, map, string_bytes};
+ghost use Rattle.std.specs.Prelude.{◌≡◌, ◌≢◌, ◌<◌, true, false, [], ℕ, List, Some, IsErrOf, IfOk, MatchResult, length, map, string_bytes};
 ghost use Rattle.std.specs.Io.KnownBytes.{Appends};
 ghost use Rattle.nest_io.specs.Count.{HasRisen};
 ghost use Rattle.nest_io.specs.Stream.{AppendsPart};
-ghost use Rattle.cross_top.specs.Answers.{AnswersInput};
-ghost use Rattle.cross_top.specs.Words.{call_of, IsRunnable};
+ghost use Rattle.cross_top.specs.Answers.{AnswersInput, is_gen};
+ghost use Rattle.cross_top.specs.Words.{AskToRead, IsAnswerable, reads_input};
 ghost use Rattle.cross_top.specs.Ends.{Ends, IsDue, IsDueTo, TakesInput};
 
-use crate::answers::{Reply, answer_input, refusal};
+use crate::answers::{Reply, answer_generated, answer_input, refusal};
 use crate::status::{Ended, Status};
-use crate::words::{Call, call_of};
+use crate::words::{asked, reads_input};
+use cross_words::Call;
 use nest_io::{Sink, Source, TakeFault, WriteFailed, put_all, take_all};
 use nest_syntax::NoMemory;
 use std::alloc::Global;
@@ -33,8 +34,8 @@ pub fn cross_quiet<S: Source, K: Sink>(
 
     ensures ends { Ends (map string_bytes words.now) (record { old = S.left source.old; new = S.left source.new; ended = S.is_ended source.new }) (K.written sink.old) (K.written sink.new) (K.has_room sink.old) result.status result.history.items }
 
-    // Where the words are refused the source is as it was, however the call ends.
-    ensures untouched { call_of (map string_bytes words.now) ≡ None → source.new ≡ source.old }
+    // Where the words ask for nothing that reads, the source is as it was, however the call ends.
+    ensures untouched { (AskToRead (map string_bytes words.now) → ⊥) → source.new ≡ source.old }
 
     // A fault is told only where a count rose, and where none is told the counts are as they were.
     ensures read_fault { result.status ≡ Status.ReadFault → HasRisen (S.faults source.old) (S.faults source.new) }
@@ -83,41 +84,45 @@ fn answer<S: Source>(alloc: Global, words: &[String], source: &mut S) -> Result<
     requires { S.is_ended source.old ≡ false }
 
     ensures due { IfOk result (λ reply. IsDue (map string_bytes words.now) (record { old = S.left source.old; new = S.left source.new; ended = S.is_ended source.new }) reply) }
-    ensures untouched { call_of (map string_bytes words.now) ≡ None → source.new ≡ source.old }
-    ensures accepted { IsErrOf result Unanswered.Read → IsSome (call_of (map string_bytes words.now)) }
+    ensures untouched { (AskToRead (map string_bytes words.now) → ⊥) → source.new ≡ source.old }
+    ensures reads { IsErrOf result Unanswered.Read → AskToRead (map string_bytes words.now) }
     ensures read_fault { IsErrOf result Unanswered.Read → HasRisen (S.faults source.old) (S.faults source.new) }
     ensures no_read_fault { result ≢ Err Unanswered.Read → S.faults source.new ≡ S.faults source.old }
     ensures sure { S.never_fails source.old → result ≢ Err Unanswered.Read }
 {
-    match call_of(words) {
-        Some(call) => answer_call(alloc, call, source),
-        None => or_no_memory(refusal(alloc, Status::WordsRefused, b"words")),
+    match asked(alloc, words) {
+        Ok(Some(call)) => answer_call(alloc, &call, source),
+        Ok(None) => or_no_memory(refusal(alloc, Status::WordsRefused, b"words")),
+        Err(NoMemory) => Err(Unanswered::NoMemory),
     }
 }
 
 /// What is due to a call.
-fn answer_call<S: Source>(alloc: Global, call: Call, source: &mut S) -> Result<Reply, Unanswered>
+fn answer_call<S: Source>(alloc: Global, call: &Call, source: &mut S) -> Result<Reply, Unanswered>
     requires going { S.is_ended source.old ≡ false }
-    requires runs { IsRunnable call.options }
+    requires answerable { IsAnswerable call.now }
 
-    ensures due { IfOk result (λ reply. IsDueTo (Some call) (record { old = S.left source.old; new = S.left source.new; ended = S.is_ended source.new }) reply) }
+    ensures due { IfOk result (λ reply. IsDueTo (Some call.now) (record { old = S.left source.old; new = S.left source.new; ended = S.is_ended source.new }) reply) }
+    ensures untouched { reads_input call.now.action ≡ false → source.new ≡ source.old }
+    ensures reads { IsErrOf result Unanswered.Read → reads_input call.now.action ≡ true }
     ensures read_fault { IsErrOf result Unanswered.Read → HasRisen (S.faults source.old) (S.faults source.new) }
     ensures no_read_fault { result ≢ Err Unanswered.Read → S.faults source.new ≡ S.faults source.old }
     ensures sure { S.never_fails source.old → result ≢ Err Unanswered.Read }
 {
-    if call.action.reads_input() {
+    if reads_input(call.action) {
         answer_source(alloc, call, source)
     } else {
-        or_no_memory(answer_input(alloc, call, b""))
+        or_no_memory(answer_generated(alloc, call))
     }
 }
 
 /// What is due to a call from the bytes of the source.
-fn answer_source<S: Source>(alloc: Global, call: Call, source: &mut S) -> Result<Reply, Unanswered>
+fn answer_source<S: Source>(alloc: Global, call: &Call, source: &mut S) -> Result<Reply, Unanswered>
     requires going { S.is_ended source.old ≡ false }
-    requires runs { IsRunnable call.options }
+    requires answerable { IsAnswerable call.now }
+    requires no_gen { is_gen call.now.action ≡ false }
 
-    ensures due { IfOk result (λ reply. (input : List ℕ) × TakesInput (record { old = S.left source.old; new = S.left source.new; ended = S.is_ended source.new }) input × AnswersInput call input reply) }
+    ensures due { IfOk result (λ reply. (input : List ℕ) × TakesInput (record { old = S.left source.old; new = S.left source.new; ended = S.is_ended source.new }) input × AnswersInput call.now input reply) }
     ensures read_fault { IsErrOf result Unanswered.Read → HasRisen (S.faults source.old) (S.faults source.new) }
     ensures no_read_fault { result ≢ Err Unanswered.Read → S.faults source.new ≡ S.faults source.old }
     ensures sure { S.never_fails source.old → result ≢ Err Unanswered.Read }

@@ -24,7 +24,7 @@ engine_named text = if bytes_eq text (codes "domore") then Some Domore else (if 
 abbrev pub sign_named : Text → Option Sign
 sign_named text = if bytes_eq text (codes "range") then Some Range else (if bytes_eq text (codes "exact") then Some Exact else None)
 
-abbrev at_least : ℕ → Option ℕ → Option ℕ
+abbrev pub at_least : ℕ → Option ℕ → Option ℕ
 at_least least None = None
 at_least least (Some n) = if nat_le least n then Some n else None
 

@@ -10,6 +10,6 @@ mod read;
 mod table;
 
 pub use call::{Action, Call};
-pub use law::one_call;
+pub use law::{calls_are_in_range, one_call};
 pub use read::read_words;
 pub use word_texts::WordsRefused;

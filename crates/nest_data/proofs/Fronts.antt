@@ -1,21 +1,8 @@
--- The first line of a text, and the first word.
-use Rattle.std.proofs.Common.{◌≡◌, ℕ, zero, suc, ◌+◌, ◌-◌, ◌<◌, ◌≤◌, Bool, true, false, cond, not, Some, None, List, [], ◌∷◌, length, get_or, take, drop, refl, sym, ap, ◌∙◌, subst, arith}
-use Rattle.std.specs.List.{All, filter, slice_split, onto_first, position, position_or_len}
-use Rattle.std.proofs.lemmas.Bool.{cond-true, cond-false, ltb-false, not-true, not-false, ne_eqb}
-use Rattle.std.proofs.lemmas.List.{get_or_default, take_rest}
-use Rattle.std.proofs.lemmas.List.Sums.{fails_before_first}
-use Rattle.std.proofs.lemmas.List.Splits.{slice_split-cons_yes, slice_split-cons_no, slice_split_none}
-use Rattle.nest_data.specs.Lines.{is_line_feed, lines_of, is_separator, is_word_byte, has_bytes, words_in}
-
-none_is_past : (b : Bool) (n : ℕ) → cond b (Some n) None ≡ None → b ≡ false
-none_is_past true n e = cc
-none_is_past false n e = refl
-
--- where no place is the first that passes, none passes
-pub none_pass : {X : Type 0} (p : X → Bool) (xs : List X) (k : ℕ) (d : X) → position p xs ≡ None → k < length xs → p (get_or xs k d) ≡ false
-none_pass p xs k d none within =
-    let past : length xs ≤ position_or_len p xs = ltb-false _ _ (none_is_past _ _ none) in
-    fails_before_first p xs k d (omega arith)
+-- The first line of a text.
+use Rattle.std.proofs.Common.{◌≡◌, ℕ, zero, suc, ◌<◌, true, false, List, [], ◌∷◌, length, get_or, take, drop, ap, ◌∙◌, arith}
+use Rattle.std.specs.List.{onto_first}
+use Rattle.std.proofs.lemmas.Bool.{cond-true, cond-false}
+use Rattle.nest_data.specs.Lines.{is_line_feed, lines_of}
 
 -- a line feed ends the first line
 pub first_line : (bytes : List ℕ) (n : ℕ) → n < length bytes → is_line_feed (get_or bytes n 0) ≡ true → ((k : ℕ) → k < n → is_line_feed (get_or bytes k 0) ≡ false)
@@ -33,54 +20,3 @@ last_line (b ∷ []) some none = cond-false (is_line_feed b) _ _ (none 0 (omega 
 last_line (b ∷ c ∷ bytes) some none =
     cond-false (is_line_feed b) _ _ (none 0 (omega arith))
     ∙ ap (onto_first b) (last_line (c ∷ bytes) (omega arith) (λ k below. none (suc k) (omega arith)))
-
--- separators in front are no part of a word
-pub passed_separators : (bytes : List ℕ) (n : ℕ) → n ≤ length bytes → ((k : ℕ) → k < n → is_word_byte (get_or bytes k 0) ≡ false) → words_in bytes ≡ words_in (drop n bytes)
-passed_separators bytes zero within before = refl
-passed_separators [] (suc n) within before = refl
-passed_separators (b ∷ bytes) (suc n) within before =
-    ap (filter has_bytes) (slice_split-cons_yes is_separator b bytes (not-false (is_separator b) (before 0 (omega arith))))
-    ∙ passed_separators bytes n (omega arith) (λ k below. before (suc k) (omega arith))
-
--- where all bytes are separators there is no word
-pub no_words : (bytes : List ℕ) → ((k : ℕ) → k < length bytes → is_word_byte (get_or bytes k 0) ≡ false) → words_in bytes ≡ []
-no_words [] none = refl
-no_words (b ∷ bytes) none =
-    ap (filter has_bytes) (slice_split-cons_yes is_separator b bytes (not-false (is_separator b) (none 0 (omega arith))))
-    ∙ no_words bytes (λ k below. none (suc k) (omega arith))
-
-has_some : (word : List ℕ) → 0 < length word → has_bytes word ≡ true
-has_some [] some = absurd (omega arith)
-has_some (b ∷ word) some = ap not (ne_eqb (length (b ∷ word)) 0 (omega arith))
-
-kept : (word : List ℕ) (parts : List (List ℕ)) → 0 < length word → filter has_bytes (word ∷ parts) ≡ word ∷ filter has_bytes parts
-kept word parts some = cond-true (has_bytes word) _ _ (has_some word some)
-
--- a separator ends the first part
-first_part : (bytes : List ℕ) (n : ℕ) → n < length bytes → is_separator (get_or bytes n 0) ≡ true → ((k : ℕ) → k < n → is_separator (get_or bytes k 0) ≡ false)
-    → slice_split is_separator bytes ≡ take n bytes ∷ slice_split is_separator (drop (suc n) bytes)
-first_part [] n within ends before = absurd (omega arith)
-first_part (b ∷ bytes) zero within ends before = slice_split-cons_yes is_separator b bytes ends
-first_part (b ∷ bytes) (suc n) within ends before =
-    slice_split-cons_no is_separator b bytes (before 0 (omega arith))
-    ∙ ap (onto_first b) (first_part bytes n (omega arith) ends (λ k below. before (suc k) (omega arith)))
-
--- a separator ends the first word
-pub first_word : (bytes : List ℕ) (n : ℕ) → is_word_byte (get_or bytes 0 0) ≡ true → n < length bytes → is_separator (get_or bytes n 0) ≡ true
-    → ((k : ℕ) → k < n → is_separator (get_or bytes k 0) ≡ false) → words_in bytes ≡ take n bytes ∷ words_in (drop (suc n) bytes)
-first_word [] n begins within ends before = absurd (omega arith)
-first_word (b ∷ bytes) zero begins within ends before = cc (not-true (is_separator b) begins)
-first_word (b ∷ bytes) (suc n) begins within ends before =
-    ap (filter has_bytes) (first_part (b ∷ bytes) (suc n) within ends before) ∙ kept (take (suc n) (b ∷ bytes)) (slice_split is_separator (drop (suc (suc n)) (b ∷ bytes))) (omega arith)
-
--- the last word ends with the bytes
-pub last_word : (bytes : List ℕ) → 0 < length bytes → ((k : ℕ) → k < length bytes → is_separator (get_or bytes k 0) ≡ false) → words_in bytes ≡ bytes ∷ []
-last_word bytes some none =
-    let each : All (λ b. is_separator b ≡ false) bytes = λ k d below. subst (λ (b : ℕ). is_separator b ≡ false) (get_or_default bytes k 0 d below) (none k below) in
-    ap (filter has_bytes) (slice_split_none is_separator bytes each) ∙ kept bytes [] some
-
--- what stands behind a place, as the code cuts it
-pub behind : (bytes : List ℕ) (n : ℕ) → drop (suc n) bytes ≡ take (length bytes - (n + 1)) (drop (n + 1) bytes)
-behind bytes n =
-    let e : n + 1 ≡ suc n = omega arith in
-    sym (take_rest bytes (n + 1) ∙ ap (λ (m : ℕ). drop m bytes) e)

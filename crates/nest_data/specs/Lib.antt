@@ -4,4 +4,5 @@ pub mod Data
 pub mod OfLines
 pub mod Faults
 pub mod Progress
+pub mod Sum
 pub mod Text

@@ -29,9 +29,13 @@ without_return line = if slice_index line (length line - 1) == 13 then take (len
 abbrev pub has_bytes : List ℕ → Bool
 has_bytes word = not (length word == 0)
 
--- what the separators part, without the empty parts
+-- what separators part, without the empty parts
+abbrev pub parted_by : (ℕ → Bool) → List ℕ → List (List ℕ)
+parted_by separates bytes = filter has_bytes (slice_split separates bytes)
+
+-- the same by spaces and tabs
 abbrev pub words_in : List ℕ → List (List ℕ)
-words_in bytes = filter has_bytes (slice_split is_separator bytes)
+words_in bytes = parted_by is_separator bytes
 
 -- The words of a line. A line with nothing but spaces, tabs and carriage returns has none.
 abbrev pub words_of : List ℕ → List (List ℕ)

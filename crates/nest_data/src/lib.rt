@@ -10,8 +10,10 @@ mod print;
 mod progress;
 mod read;
 mod refused;
+mod sum;
 mod values;
 
-pub use print::print_words;
+pub use print::{add_line, print_words};
 pub use read::{faults_are_of_lines, read_data, words_are_of_lines};
 pub use refused::{DataKind, DataRefused};
+pub use sum::sum_words;

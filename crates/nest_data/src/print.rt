@@ -49,7 +49,8 @@ fn print_lines(
     Ok(text)
 }
 
-fn add_line(text: &mut Vec<u8>, name: &[u8], values: &[i64]) -> Result<(), NoMemory>
+/// Appends the line of an array: its name and its values, separated by single spaces.
+pub fn add_line(text: &mut Vec<u8>, name: &[u8], values: &[i64]) -> Result<(), NoMemory>
     ensures { OnOk result (text.new.items ≡ text.old.items ++ array_line name.now values.now) }
 {
     let mut number = Buffer::new();

@@ -1,22 +1,22 @@
 -- Draws one by one, and in parts.
-use Rattle.std.proofs.Common.{◌≡◌, ℕ, zero, suc, ◌+◌, ◌-◌, ◌*◌, ◌<◌, ◌%◌, List, [], ◌∷◌, ◌++◌, map, take, drop, length, refl, sym, ap, ◌∙◌, arith}
+use Rattle.std.proofs.Common.{◌≡◌, ℕ, zero, suc, ◌+◌, ◌-◌, ◌*◌, ◌<◌, ◌%◌, ℤ, pos, List, [], ◌∷◌, ◌++◌, map, take, drop, length, refl, sym, ap, ◌∙◌, arith}
 use Rattle.std.proofs.lemmas.List.{append_assoc, take_at, drop_at}
 use Rattle.nest_gen.specs.Draws.{drawn, next_state, draws_from, state_behind}
 
-abbrev pub reduced : ℕ → List ℕ → List ℕ
-reduced modulus draws = map (λ (draw : ℕ). draw % modulus) draws
+abbrev pub reduced : ℕ → List ℕ → List ℤ
+reduced modulus draws = map (λ (draw : ℕ). pos (draw % modulus)) draws
 
 one_left : (turn count : ℕ) → turn < count → count - turn ≡ suc (count - (turn + 1))
 one_left turn count more = omega arith
 
 -- a draw is made: what is drawn and what is left stay all draws
-pub drawn_on : (items longer all : List ℕ) (modulus state next draw turn count : ℕ) → turn < count → longer ≡ items ++ draw % modulus ∷ [] → next ≡ next_state state → draw ≡ drawn next
+pub drawn_on : (items longer all : List ℤ) (modulus state next draw turn count : ℕ) → turn < count → longer ≡ items ++ pos (draw % modulus) ∷ [] → next ≡ next_state state → draw ≡ drawn next
     → items ++ reduced modulus (draws_from state (count - turn)) ≡ all → longer ++ reduced modulus (draws_from next (count - (turn + 1))) ≡ all
 drawn_on items longer all modulus state next draw turn count more pushed is drawn_is same =
-    ap (λ (xs : List ℕ). xs ++ reduced modulus (draws_from next (count - (turn + 1)))) pushed
-    ∙ append_assoc items (draw % modulus ∷ []) _
-    ∙ ap (λ (d : ℕ). items ++ d % modulus ∷ reduced modulus (draws_from next (count - (turn + 1)))) drawn_is
-    ∙ ap (λ (s : ℕ). items ++ drawn s % modulus ∷ reduced modulus (draws_from s (count - (turn + 1)))) is
+    ap (λ (xs : List ℤ). xs ++ reduced modulus (draws_from next (count - (turn + 1)))) pushed
+    ∙ append_assoc items (pos (draw % modulus) ∷ []) _
+    ∙ ap (λ (d : ℕ). items ++ pos (d % modulus) ∷ reduced modulus (draws_from next (count - (turn + 1)))) drawn_is
+    ∙ ap (λ (s : ℕ). items ++ pos (drawn s % modulus) ∷ reduced modulus (draws_from s (count - (turn + 1)))) is
     ∙ sym (ap (λ (n : ℕ). items ++ reduced modulus (draws_from state n)) (one_left turn count more))
     ∙ same
 
@@ -31,7 +31,7 @@ in_parts state (suc n) m =
     let one : suc n + m ≡ suc (n + m) = omega arith in
     ap (draws_from state) one ∙ ap (λ (ds : List ℕ). drawn (next_state state) ∷ ds) (in_parts (next_state state) n m)
 
-as_many : (state n : ℕ) → length (draws_from state n) ≡ n
+pub as_many : (state n : ℕ) → length (draws_from state n) ≡ n
 as_many state zero = refl
 as_many state (suc n) = ap suc (as_many (next_state state) n)
 

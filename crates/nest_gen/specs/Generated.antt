@@ -1,11 +1,7 @@
 -- The text of a seed and a size.
-use Rattle.std.specs.Prelude.{ℕ, ◌*◌, ◌%◌, List, [], ◌∷◌, ◌++◌, map, take, drop, codes, decimal}
-use Rattle.std.specs.List.{flat_map}
+use Rattle.std.specs.Prelude.{ℕ, ◌*◌, ◌%◌, pos, List, [], ◌∷◌, ◌++◌, map, take, drop, codes, decimal}
+use Rattle.nest_data.specs.Text.{array_line}
 use Rattle.nest_gen.specs.Draws.{draws_from}
-
--- the line of an array: its name and its values, separated by single spaces
-abbrev pub data_line : List ℕ → List ℕ → List ℕ
-data_line name values = name ++ flat_map (λ value. 32 ∷ decimal value) values ++ 10 ∷ []
 
 abbrev pub line : List ℕ → List ℕ
 line text = text ++ 10 ∷ []
@@ -35,6 +31,6 @@ abbrev pub generated : ℕ → ℕ → List ℕ
 generated seed size =
     let draws = draws_from seed (3 * size) in
     nest_text size ++ line (codes "data")
-    ++ data_line (codes "a") (map (λ draw. draw % 100) (take size (drop size draws)))
-    ++ data_line (codes "b") (map (λ draw. draw % 100) (drop size (drop size draws)))
-    ++ data_line (codes "ix") (map (λ draw. draw % size) (take size draws))
+    ++ array_line (codes "a") (map (λ draw. pos (draw % 100)) (take size (drop size draws)))
+    ++ array_line (codes "b") (map (λ draw. pos (draw % 100)) (drop size (drop size draws)))
+    ++ array_line (codes "ix") (map (λ draw. pos (draw % size)) (take size draws))

@@ -1,4 +1,4 @@
-ghost use Rattle.std.specs.Prelude.{◌≡◌, ◌<◌, ◌≤◌, ◌%◌, IfOk, OnOk, map};
+ghost use Rattle.std.specs.Prelude.{◌≡◌, ◌<◌, ◌≤◌, ◌%◌, pos, IfOk, OnOk, map};
 ghost use Rattle.nest_gen.specs.Draws.{drawn, next_state, draws_from, state_behind};
 
 use nest_syntax::NoMemory;
@@ -34,15 +34,22 @@ impl Draws {
         alloc: Global,
         count: u32,
         modulus: u32,
-    ) -> Result<Vec<u32>, NoMemory>
+    ) -> Result<Vec<i64>, NoMemory>
         requires { 1 ≤ modulus }
-        ensures draws { IfOk result (λ list. list.items ≡ map (λ draw. draw % modulus) (draws_from self.old.state count)) }
+        ensures draws { IfOk result (λ list. list.items ≡ map (λ draw. pos (draw % modulus)) (draws_from self.old.state count)) }
         ensures state { OnOk result (self.new.state ≡ state_behind self.old.state count) }
     {
         let mut list = Vec::new(alloc);
         for _turn in 0..count {
-            list.push(self.next() % modulus)?;
+            list.push(reduced(self.next(), modulus))?;
         }
         Ok(list)
     }
+}
+
+fn reduced(draw: u32, modulus: u32) -> i64
+    requires { 1 ≤ modulus }
+    ensures { result ≡ pos (draw % modulus) }
+{
+    i64::from(draw % modulus)
 }

@@ -1,8 +1,9 @@
-ghost use Rattle.std.specs.Prelude.{◌≡◌, ◌≤◌, ◌++◌, IfOk, OnOk};
-ghost use Rattle.nest_gen.specs.Generated.{sized, nest_text, data_line, generated};
+ghost use Rattle.std.specs.Prelude.{◌≡◌, ◌≤◌, ◌++◌, length, IfOk, OnOk};
+ghost use Rattle.nest_gen.specs.Generated.{sized, nest_text, generated};
 
 use crate::draws::Draws;
 use itoa::Buffer;
+use nest_data::add_line;
 use nest_syntax::NoMemory;
 use std::alloc::Global;
 
@@ -12,7 +13,8 @@ pub fn generate(alloc: Global, seed: u32, size: u32) -> Result<Vec<u8>, NoMemory
     requires seed { seed ≤ 2147483647 }
     requires some { 1 ≤ size }
     requires few { size ≤ 262144 }
-    ensures { IfOk result (λ text. text.items ≡ generated seed size) }
+    ensures text { IfOk result (λ text. text.items ≡ generated seed size) }
+    ensures few { IfOk result (λ text. length text.items ≤ 33554432) }
 {
     let mut draws = Draws::from_seed(seed);
     let places = draws.take(alloc, size, size)?;
@@ -53,17 +55,4 @@ fn nest_text(alloc: Global, size: u32) -> Result<Vec<u8>, NoMemory>
     text.extend_from_slice(b"  }\n")?;
     text.extend_from_slice(b"}\n")?;
     Ok(text)
-}
-
-fn add_line(text: &mut Vec<u8>, name: &[u8], values: &[u32]) -> Result<(), NoMemory>
-    ensures { OnOk result (text.new.items ≡ text.old.items ++ data_line name.now values.now) }
-{
-    let mut number = Buffer::new();
-    text.extend_from_slice(name)?;
-    for value in values {
-        text.push(b' ')?;
-        text.extend_from_slice(number.format(*value).as_bytes())?;
-    }
-    text.push(b'\n')?;
-    Ok(())
 }

@@ -1,2 +1,4 @@
 pub mod Text
 pub mod Deps
+pub mod Report
+pub mod Steps

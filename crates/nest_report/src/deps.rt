@@ -135,7 +135,7 @@ fn add_access(at: AccessAt, text: &mut Vec<u8>) -> Result<(), NoMemory>
 }
 
 // The bytes of a name. A name that isn't there has none.
-fn name_bytes(names: &[Name], name: u32) -> &[u8]
+pub(crate) fn name_bytes(names: &[Name], name: u32) -> &[u8]
     ensures { result.now ≡ slice_index_or names.now name [] }
 {
     match names.get(name as usize) {

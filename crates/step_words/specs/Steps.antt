@@ -1,7 +1,8 @@
 -- The words behind the line `steps`.
-use Rattle.std.specs.Prelude.{◌≡◌, ℕ, ◌+◌, Bool, ◌==◌, ◌||◌, not, Option, Some, None, is_some, List, length, ⊤}
-use Rattle.std.specs.List.{filter, filter_map, position_from, slice_split}
+use Rattle.std.specs.Prelude.{◌≡◌, ℕ, ◌+◌, Bool, ◌==◌, ◌||◌, not, Option, Some, None, is_some, List, ⊤}
+use Rattle.std.specs.List.{filter_map, position_from}
 use Rattle.nest_lex.specs.Spelling.{number_within}
+use Rattle.nest_data.specs.Lines.{parted_by}
 use Rattle.step_words.specs.declared.refused.StepsRefused.{StepsRefused}
 use Rattle.step_words.specs.declared.refused.StepsRefused.TheVariants as refused
 
@@ -12,12 +13,9 @@ is_separator b = b == 32 || b == 9 || b == 13 || b == 10
 abbrev pub is_word_byte : ℕ → Bool
 is_word_byte b = not (is_separator b)
 
-abbrev pub has_bytes : List ℕ → Bool
-has_bytes word = not (length word == 0)
-
 -- what the separators part, without the empty parts
 abbrev pub words_in : List ℕ → List (List ℕ)
-words_in bytes = filter has_bytes (slice_split is_separator bytes)
+words_in bytes = parted_by is_separator bytes
 
 -- the actor that a word names: decimal digits, and at most the checker's number
 abbrev pub actor_of : ℕ → List ℕ → Option ℕ

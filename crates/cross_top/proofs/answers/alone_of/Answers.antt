@@ -7,10 +7,10 @@ use Rattle.cross_top.proofs.Replies.{words_answered, fault_answered}
 use Rattle.cross_top.proofs.answers.alone_of.Goals as goal
 
 pub returns-in-Ok : goal.returns-in-Ok
-returns-in-Ok c = words_answered (AnswersAlone c.args.options) c.args.input.now c.args.checked c.in-Ok.words _ c.new.ensures c.in-Ok.ensures.said c.alone_or_refused.result c.alone_or_refused.ensures
+returns-in-Ok c = words_answered (AnswersAlone c.args.call.now) c.args.input.now c.args.checked c.in-Ok.words _ c.new.ensures c.in-Ok.ensures.said c.alone_or_refused.result c.alone_or_refused.ensures
 
 pub returns-in-Err-Refused : goal.returns-in-Err-Refused
 returns-in-Err-Refused c =
     let says = subst (λ (e : InputRefused). Tells (SaysWords c.args.input.now c.args.checked) (Err e)) c.in-Err-Refused.field-0-is c.in-Err-Refused.ensures.said in
     let told = subst (λ (why : Refusal). IfOk c.refused.result (λ reply. reply ≡ refused_answer why)) c.in-Err-Refused.why-is c.refused.ensures in
-    fault_answered (AnswersAlone c.args.options) c.args.input.now c.args.checked c.in-Err-Refused.why says c.refused.result told
+    fault_answered (AnswersAlone c.args.call.now) c.args.input.now c.args.checked c.in-Err-Refused.why says c.refused.result told

@@ -12,9 +12,9 @@ alone-requires-clause-own c = own_job c.args.job c.checked.ensures.runs.sizes
 pub returns-then-is_first_form : goal.returns-then-is_first_form
 returns-then-is_first_form c =
     let first = subst IsSpelledFirst (c.program.ensures.same ∙ c.checked.ensures.same) (c.if-is_first_form.ensures.0 refl) in
-    form_answered c.alone.result c.args.options c.args.job.program c.args.job.opening.words first c.alone.ensures
+    form_answered c.alone.result c.args.call.now c.args.job.program c.args.job.opening.words first c.alone.ensures
 
 pub returns-else-is_first_form : goal.returns-else-is_first_form
 returns-else-is_first_form c =
     let same = sym (c.program.ensures.same ∙ c.checked.ensures.same) in
-    formless_answered c.refusal.result c.args.options c.args.job.program c.args.job.opening.words (λ first. let told = c.if-is_first_form.ensures.1 (subst IsSpelledFirst same first) in cc) c.refusal.ensures
+    formless_answered c.refusal.result c.args.call.now c.args.job.program c.args.job.opening.words (λ first. let told = c.if-is_first_form.ensures.1 (subst IsSpelledFirst same first) in cc) c.refusal.ensures

@@ -7,10 +7,10 @@ use Rattle.cross_top.proofs.Replies.{program_answered, refusal_answered}
 use Rattle.cross_top.proofs.answers.answer_input.Goals as goal
 
 pub returns-in-Ok : goal.returns-in-Ok
-returns-in-Ok c = program_answered c.answer_program.result c.args.call c.args.input.now c.in-Ok.checked c.requires.few c.in-Ok.ensures c.answer_program.ensures
+returns-in-Ok c = program_answered c.answer_program.result c.args.call.now c.args.input.now c.in-Ok.checked c.requires.few c.in-Ok.ensures c.answer_program.ensures
 
 pub returns-in-Err-Refused : goal.returns-in-Err-Refused
 returns-in-Err-Refused c =
     let says = subst (λ (e : InputRefused). Tells (SaysNest c.args.input.now) (Err e)) c.in-Err-Refused.field-0-is c.in-Err-Refused.ensures in
     let told = subst (λ (why : Refusal). IfOk c.refused.result (λ reply. reply ≡ refused_answer why)) c.in-Err-Refused.why-is c.refused.ensures in
-    refusal_answered c.refused.result c.args.call c.args.input.now c.in-Err-Refused.why c.requires.few says told
+    refusal_answered c.refused.result c.args.call.now c.args.input.now c.in-Err-Refused.why c.requires.few says told

@@ -1,7 +1,8 @@
 use Rattle.std.proofs.Common.{◌∷◌, List, ℕ, take, sym, ap, ◌∙◌}
 use Rattle.std.proofs.lemmas.List.Quantifiers.{position-Some}
 use Rattle.nest_data.specs.Lines.{is_line_feed, lines_of}
-use Rattle.nest_data.proofs.Fronts.{none_pass, first_line, last_line, behind}
+use Rattle.nest_data.proofs.Fronts.{first_line, last_line}
+use Rattle.nest_data.proofs.Parted.{none_pass, behind}
 use Rattle.nest_data.proofs.lines.next_line.Goals as goal
 
 pub returns-in-Some-clause-lines : goal.returns-in-Some-clause-lines

@@ -1,7 +1,7 @@
 use Rattle.std.proofs.Common.{◌≡◌, ◌++◌, drop}
 use Rattle.std.specs.List.{flat_map}
-use Rattle.cross_top.specs.Report.{wait_line}
-use Rattle.cross_top.proofs.report.add_wait_lines.Given as goal
+use Rattle.nest_report.specs.Report.{wait_line}
+use Rattle.nest_report.proofs.report.add_waits.Given as goal
 
 -- what is written and the waits that are left are all lines
 abbrev pub invariant-loop-wait : goal.invariant-loop-wait
