@@ -2,14 +2,7 @@ pub mod Rows
 pub mod Sets
 pub mod Filled
 pub mod Spanned
-pub mod Nodes
-pub mod Walks
-pub mod Parts
 pub mod Held
-pub mod Room
-pub mod Sound
-pub mod Bodies
-pub mod Turns
 pub mod Clashes
 pub mod Meeting
 pub mod Walking

@@ -10,11 +10,9 @@ mod deep_set;
 mod law;
 mod row_set;
 mod slices;
-mod walk;
 mod word_set;
 
 pub use claim_set::Claims;
-pub use law::{claims_are_of_scope, claims_hold, claims_hold_turns, test_tells_clash};
+pub use law::{claims_are_of_scope, claims_hold, test_tells_clash};
 pub use row_set::RowSet;
 pub use slices::{claims, claims_and_cost};
-pub use walk::first_claims;

@@ -7,7 +7,6 @@ use Rattle.word_store.specs.Memory.{Memory, HasLayout}
 use Rattle.nest_io.specs.declared.transfer.TheConstants.{MOST_BYTES}
 use Rattle.nest_input.specs.declared.refused.Refusal.{Refusal}
 use Rattle.nest_input.specs.Input.{SaysNest, SaysWords}
-use Rattle.first_form.specs.Spelled.{IsSpelledFirst}
 use Rattle.nest_mean.specs.Nest.{Nest}
 use Rattle.progress_board.specs.Options.{IsInRange}
 use Rattle.progress_board.specs.declared.options.Options.{Options}
@@ -20,7 +19,7 @@ use Rattle.cross_words.specs.declared.call.Action.TheVariants.{Plain, Check, Dep
 use Rattle.cross_words.specs.declared.call.Call.{Call}
 use Rattle.nest_gen.specs.Generated.{generated}
 use Rattle.cross_top.specs.Words.{Ask, AskToRead, IsRunnable, is_domore, reads_input}
-use Rattle.cross_top.specs.Answers.{Answer, refusal, refused_answer, RunsAlone, job_of, AnswersAlone, runs, no_form, AnswersData, AnswersProgram, AnswersInput, too_long, a_text, Answers, AnswersCall, gen_answer, is_gen}
+use Rattle.cross_top.specs.Answers.{Answer, refusal, refused_answer, job_of, AnswersData, AnswersProgram, AnswersInput, too_long, a_text, Answers, AnswersCall, gen_answer, is_gen}
 use Rattle.cross_top.specs.Ends.{SourceChange, IsDue, IsDueTo, TakesInput, TakesWhere}
 
 -- the answer to a nest that is a program
@@ -42,20 +41,6 @@ words_answered Acts input program memory nest is says (Err e) h = tt
 pub fault_answered : (Acts : Program → List ℤ → Answer → Type 0) (input : List ℕ) (program : Program) (why : Refusal) → SaysWords input program (Err why) → (r : Result Answer NoMemory) → IfOk r (λ reply. reply ≡ refused_answer why) → IfOk r (λ reply. AnswersData (Acts program) input program reply)
 fault_answered Acts input program why says (Ok reply) h = record { said = Err why; says = says; answers = h }
 fault_answered Acts input program why says (Err e) h = tt
-
--- what `alone` answers to a program of the first form
-pub form_answered : (r : Result Answer NoMemory) (call : Call) (program : Program) (words : List ℤ) → IsSpelledFirst program → IfOk r (λ reply. RunsAlone call program words reply) → IfOk r (λ reply. AnswersAlone call program words reply)
-form_answered (Ok reply) call program words first h = runs first h
-form_answered (Err e) call program words first h = tt
-
--- and to any other
-pub formless_answered : (r : Result Answer NoMemory) (call : Call) (program : Program) (words : List ℤ) → (IsSpelledFirst program → ⊥) → IfOk r (λ reply. reply ≡ refusal status.TextRefused (codes "form")) → IfOk r (λ reply. AnswersAlone call program words reply)
-formless_answered (Ok reply) call program words none h = no_form none h
-formless_answered (Err e) call program words none h = tt
-
--- a job has the sizes of its program
-pub own_job : (nest : Nest) → HasLayout nest.opening nest.program.decls → nest ≡ job_of nest.program nest.opening.words
-own_job nest sizes = λ i. record { program = nest.program; opening = record { sizes = sizes i; words = nest.opening.words } }
 
 -- a call is answered from these bytes of a source
 abbrev pub IsAnsweredFrom : Call → SourceChange → Answer → Type 0

@@ -1,53 +1,37 @@
--- What a finished engine tells is what is due: the outcome of textual order, and the facts of the nest.
-use Rattle.std.proofs.Common.{◌≡◌, ℕ, Result, Ok, Err, IfOk, List, [], Some, sym, subst, ap, ◌∙◌}
-use Rattle.nest_syntax.specs.FirstForm.{IsFirstForm}
+-- What a run tells is what is due.
+use Rattle.std.proofs.Common.{◌≡◌, ℕ, Bool, true, false, if◌then◌else◌, ◌++◌, Result, Ok, Err, IfOk, List, [], refl, sym, subst, ap, ◌∙◌}
+use Rattle.nest_syntax.specs.declared.names.NoMemory.{NoMemory}
 use Rattle.nest_syntax.specs.Outcome.{Ending, Done, TrappedAt, ending}
 use Rattle.nest_mean.specs.Nest.{Nest}
-use Rattle.word_store.specs.Memory.{Memory}
-use Rattle.settle_law.specs.Runs.{run, IsComplete}
-use Rattle.domore_engine.specs.Engine.{Engine, measure, opening, step, is_finished, facts_of}
-use Rattle.domore_engine.specs.Theorems.{EndsAs, Tells, facts_due}
-use Rattle.domore_engine.proofs.Histories.{ends_as_job}
-use Rattle.nest_syntax.specs.declared.names.NoMemory.{NoMemory}
+use Rattle.nest_mean.specs.Outcomes.{outcome, as_outcome}
+use Rattle.nest_runtime.specs.Jobs.{RunsJob, by_domore, RunsAlone}
+use Rattle.nest_report.specs.Steps.{steps_text}
+use Rattle.progress_board.specs.declared.facts.Facts.{Facts}
+use Rattle.progress_board.specs.declared.options.Options.{Options}
 use Rattle.cross_words.specs.declared.call.Call.{Call}
-use Rattle.progress_board.specs.Actors.{actors_of}
-use Rattle.progress_board.specs.Rotation.{rotation}
-use Rattle.cross_top.specs.declared.status.Status.TheVariants as status
-use Rattle.cross_top.specs.Words.{IsRunnable}
-use Rattle.cross_top.specs.Answers.{Answer, rotation_of, done_text, ended, reported, AnswersRun, RunsAlone, FactsAreDue, job_of}
-use Rattle.cross_top.specs.Rotated.{IsRotated}
-use Rattle.cross_top.specs.Told.{told, told_at}
+use Rattle.cross_top.specs.declared.status.Status.{Status}
+use Rattle.cross_top.specs.Answers.{Answer, is_summary, ended, told, told_steps, AnswersRun, AnswersAlone, job_of}
 
--- what an engine that tells an outcome is told as
-module _ (call : Call) (job : Nest) (history : List ℕ) (e : Engine) (same : e.job ≡ job) where
-  abbrev done_with : Nest → Memory → Answer
-  done_with j words = ended call status.Done (done_text call j.program words (facts_of e)) history
-
-  told_as : (outcome : Ending) → Tells (facts_due job call.options) e outcome → told call e history ≡ reported call job (facts_of e) history outcome
-  told_as (Done words) (over, final, counts) =
-      ap (λ x. told_at call x e history) over
-      ∙ ap (λ m. done_with e.job m) final
-      ∙ ap (λ (j : Nest). done_with j (record { sizes = j.opening.sizes; words = words })) same
-  told_as (TrappedAt place) trap = ap (λ x. told_at call x e history) trap
-
--- a complete history answers its run
-pub answers_run : (call : Call) → IsRunnable call.options → (job : Nest) → IsFirstForm job.program → (history : List ℕ) (complete : IsComplete step is_finished (opening job call.options) history) (answer : Answer) → answer ≡ told call complete.last history → AnswersRun call job history answer
-answers_run call runnable job form history complete answer is =
-    let due : EndsAs job call.options complete.last = ends_as_job job call.options form runnable.in_range history complete in
-    record { complete = complete; is = is ∙ told_as call job history complete.last due.same (ending job.program job.opening.words) due.tells }
-
-pub facts_are_due : FactsAreDue
-facts_are_due call job form in_range history answer run words done =
-    let due : EndsAs job call.options run.complete.last = ends_as_job job call.options form in_range history run.complete in
-    (subst (Tells (facts_due job call.options) run.complete.last) done due.tells).2
+-- a job that is run can be run, so its sizes are those of its program
+own_job : (job : Nest) (options : Options) (history : List ℕ) (facts : Facts) → RunsJob job options history facts → job ≡ job_of job.program job.opening.words
+own_job job options history facts (by_domore can allowed engine run) = λ i. record { program = job.program; opening = record { sizes = can.sizes i; words = job.opening.words } }
 
 -- what `alone` and `big` answer, from what their calls leave
-pub alone_due : (r : Result Answer NoMemory) (job : Nest) → IsFirstForm job.program → job ≡ job_of job.program job.opening.words → (call : Call) → IsRunnable call.options → (start e : Engine) → start ≡ opening job call.options
-    → (history : List ℕ) → IsRotated start e history → IfOk r (λ reply. reply ≡ told call e history) → IfOk r (λ reply. RunsAlone call job.program job.opening.words reply)
-alone_due (Err x) job form own call runnable start e s history rotated h = tt
-alone_due (Ok reply) job form own call runnable start e s history rotated h =
-    let history_is : history ≡ rotation_of call.options job = rotated.rotation_is ∙ ap (λ (x : Engine). rotation step measure x (actors_of x.options) []) s in
-    let made_is : rotated.agrees.made ≡ rotation_of call.options job = sym rotated.agrees.appended ∙ history_is in
-    let ran : run step (opening job call.options) rotated.agrees.made ≡ Some e = subst (λ (x : Engine). run step x rotated.agrees.made ≡ Some e) s rotated.agrees.ran in
-    let complete : IsComplete step is_finished (opening job call.options) (rotation_of call.options job) = record { last = e; ran = subst (λ (x : List ℕ). run step (opening job call.options) x ≡ Some e) made_is ran; finished = rotated.finished } in
-    subst (λ (j : Nest). AnswersRun call j (rotation_of call.options j) reply) own (answers_run call runnable job form (rotation_of call.options job) complete reply (h ∙ ap (λ (x : List ℕ). told call e x) history_is))
+pub alone_due : (r : Result Answer NoMemory) (job : Nest) (call : Call) (facts : Facts) (history : List ℕ) → RunsAlone job call.options [] history facts
+    → (copy : Nest) → copy ≡ job → IfOk r (λ reply. reply ≡ told call copy.program facts history (outcome copy)) → IfOk r (λ reply. AnswersAlone call job.program job.opening.words reply)
+alone_due (Err x) job call facts history runs copy same h = tt
+alone_due (Ok reply) job call facts history runs copy same h =
+    subst (λ (j : Nest). AnswersRun (RunsAlone j call.options []) call j reply) (own_job job call.options history facts runs.runs)
+    (record { history = history; facts = facts; runs = runs; is = subst (λ (j : Nest). reply ≡ told call j.program facts history (outcome j)) same h })
+
+-- with the same steps told, the same is told of them
+module _ (call : Call) (status : Status) (text history other : List ℕ) where
+  abbrev ended_by : Bool → List ℕ → Answer
+  ended_by summary steps = record { status = status; bytes = text ++ (if summary then [] else (if call.with_steps then steps_text steps else [])); history = if summary then [] else steps }
+
+  by_kind : (summary : Bool) → (if summary then [] else history) ≡ (if summary then [] else other) → ended_by summary history ≡ ended_by summary other
+  by_kind true same = refl
+  by_kind false same = ap (ended_by false) same
+
+  pub ended_same : told_steps call history ≡ told_steps call other → ended call status text history ≡ ended call status text other
+  ended_same same = by_kind (is_summary call.action) same

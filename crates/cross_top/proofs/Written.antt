@@ -13,9 +13,11 @@ use Rattle.word_store.specs.Memory.{Memory}
 use Rattle.nest_input.specs.declared.refused.Refusal.{Refusal}
 use Rattle.nest_mean.specs.Nest.{Nest}
 use Rattle.progress_board.specs.declared.facts.Facts.{Facts}
-use Rattle.domore_engine.specs.Engine.{facts_of}
-use Rattle.cross_top.specs.Answers.{Answer, refusal, refused_answer, printed, reported, rotation_of, job_of, plain_answer, check_answer, deps_answer, gen_answer, is_gen}
-use Rattle.cross_top.specs.Answers.{AnswersPlain, AnswersAlone, runs, no_form, AnswersWords, AnswersProgram, AnswersNest, AnswersInput, too_long, a_text, AnswersCall}
+use Rattle.nest_mean.specs.declared.outcomes.Outcome.{Outcome}
+use Rattle.nest_mean.specs.declared.outcomes.Outcome.TheVariants as outcomes
+use Rattle.nest_mean.specs.Outcomes.{outcome}
+use Rattle.cross_top.specs.Answers.{Answer, refusal, refused_answer, printed, told, job_of, plain_answer, check_answer, deps_answer, gen_answer, is_gen}
+use Rattle.cross_top.specs.Answers.{AnswersPlain, AnswersAlone, AnswersWords, AnswersProgram, AnswersNest, AnswersInput, too_long, a_text, AnswersCall}
 use Rattle.cross_top.specs.Words.{AskToRead}
 use Rattle.cross_top.specs.Ends.{SourceChange, IsDue, IsDueTo, Ends}
 
@@ -38,9 +40,9 @@ printed_answers : (program : Program) (e : Ending) → IsAnswering (printed prog
 printed_answers program (Done words) = tt
 printed_answers program (TrappedAt place) = tt
 
-reported_answers : (call : Call) (job : Nest) (facts : Facts) (history : List ℕ) (e : Ending) → IsAnswering (reported call job facts history e).status
-reported_answers call job facts history (Done words) = tt
-reported_answers call job facts history (TrappedAt place) = tt
+told_answers : (call : Call) (program : Program) (facts : Facts) (history : List ℕ) (o : Outcome) → IsAnswering (told call program facts history o).status
+told_answers call program facts history (outcomes.Done memory) = tt
+told_answers call program facts history (outcomes.Trapped place) = tt
 
 -- the status of an answer that is this one
 is_answering : (answer due : Answer) → answer ≡ due → IsAnswering due.status → IsAnswering answer.status
@@ -50,10 +52,9 @@ plain_answers : (program : Program) (words : List ℤ) (answer : Answer) → Ans
 plain_answers program words answer is = is_answering answer (plain_answer program words) is (printed_answers program (ending program words))
 
 alone_answers : (call : Call) (program : Program) (words : List ℤ) (answer : Answer) → AnswersAlone call program words answer → IsAnswering answer.status
-alone_answers call program words answer (runs first run) =
-    let job = job_of program words in let history = rotation_of call.options job in let facts = facts_of run.complete.last in
-    is_answering answer (reported call job facts history (ending program words)) run.is (reported_answers call job facts history (ending program words))
-alone_answers call program words answer (no_form none is) = is_answering answer (refusal status.TextRefused (codes "form")) is tt
+alone_answers call program words answer run =
+    let job = job_of program words in
+    is_answering answer (told call program run.facts run.history (outcome job)) run.is (told_answers call program run.facts run.history (outcome job))
 
 words_answers : (Acts : List ℤ → Answer → Type 0) → ((words : List ℤ) (answer : Answer) → Acts words answer → IsAnswering answer.status) → (said : Result Memory Refusal) (answer : Answer) → AnswersWords Acts said answer → IsAnswering answer.status
 words_answers Acts acts (Ok memory) answer is = acts memory.words answer is

@@ -2,14 +2,12 @@
 use Rattle.std.specs.Prelude.{◌≡◌, ℕ, ◌≤◌, ◌<◌, ℤ, Bool, true, false, if◌then◌else◌, Result, Ok, Err, List, [], ◌∷◌, ◌++◌, codes, length}
 use Rattle.nest_syntax.specs.declared.tree.Program.{Program}
 use Rattle.nest_syntax.specs.Arrays.{arrays_of, sizes_of}
-use Rattle.nest_syntax.specs.FirstForm.{IsFirstForm}
 use Rattle.nest_syntax.specs.Outcome.{Ending, Done, TrappedAt, ending}
 use Rattle.word_store.specs.Memory.{Memory}
 use Rattle.nest_io.specs.declared.transfer.TheConstants.{MOST_BYTES}
 use Rattle.nest_input.specs.declared.refused.Refusal.{Refusal}
 use Rattle.nest_input.specs.Input.{SaysNest, SaysWords}
 use Rattle.nest_print.specs.Canonical.{canonical_text}
-use Rattle.first_form.specs.Spelled.{IsSpelledFirst}
 use Rattle.nest_data.specs.Sum.{written_words, sum_of}
 use Rattle.nest_data.specs.Text.{array_lines}
 use Rattle.nest_report.specs.Text.{trap_line}
@@ -21,14 +19,11 @@ use Rattle.cross_words.specs.declared.call.Action.{Action}
 use Rattle.cross_words.specs.declared.call.Action.TheVariants.{Plain, Check, Deps, Alone, Replay, Profile, Gen, Big, Run}
 use Rattle.cross_words.specs.declared.call.Call.{Call}
 use Rattle.nest_mean.specs.Nest.{Nest}
-use Rattle.settle_law.specs.Runs.{IsComplete}
-use Rattle.progress_board.specs.declared.options.Options.{Options}
+use Rattle.nest_mean.specs.Outcomes.{outcome}
+use Rattle.nest_mean.specs.declared.outcomes.Outcome.{Outcome}
+use Rattle.nest_mean.specs.declared.outcomes.Outcome.TheVariants as outcomes
+use Rattle.nest_runtime.specs.Jobs.{RunsAlone}
 use Rattle.progress_board.specs.declared.facts.Facts.{Facts}
-use Rattle.progress_board.specs.Options.{IsInRange}
-use Rattle.progress_board.specs.Actors.{actors_of}
-use Rattle.progress_board.specs.Rotation.{rotation}
-use Rattle.domore_engine.specs.Engine.{opening, step, measure, is_finished, facts_of}
-use Rattle.domore_engine.specs.Theorems.{facts_due}
 use Rattle.nest_report.specs.Report.{report_text, summary_text}
 use Rattle.cross_top.specs.Refusals.{reason_text}
 
@@ -50,10 +45,6 @@ printed program (TrappedAt place) = record { status = status.Trapped; bytes = tr
 -- a program on its opening words, as a job
 abbrev pub job_of : Program → List ℤ → Nest
 job_of program words = record { program = program; opening = record { sizes = sizes_of (arrays_of program.decls); words = words } }
-
--- the steps of the rotation
-abbrev pub rotation_of : Options → Nest → List ℕ
-rotation_of options job = rotation step measure (opening job options) (actors_of options) []
 
 -- whether an action tells of a run its sum alone, and no steps
 abbrev pub is_summary : Action → Bool
@@ -78,16 +69,18 @@ steps_part call history = if is_summary call.action then [] else (if call.with_s
 abbrev pub ended : Call → Status → List ℕ → List ℕ → Answer
 ended call status text history = record { status = status; bytes = text ++ steps_part call history; history = told_steps call history }
 
--- the outcome of a job with an engine's facts, and the steps that it made
-abbrev pub reported : Call → Nest → Facts → List ℕ → Ending → Answer
-reported call job facts history (Done words) = ended call status.Done (done_text call job.program (record { sizes = job.opening.sizes; words = words }) facts) history
-reported call job facts history (TrappedAt place) = ended call status.Trapped (trap_line place) history
+-- what is told of a run that ended so, with its facts and its steps
+abbrev pub told : Call → Program → Facts → List ℕ → Outcome → Answer
+told call program facts history (outcomes.Done memory) = ended call status.Done (done_text call program memory facts) history
+told call program facts history (outcomes.Trapped place) = ended call status.Trapped (trap_line place) history
 
--- The answer of a run with these steps: they are a complete history for the job and the options, and what is told is the
--- outcome of textual order, with the facts of that history.
-pub record AnswersRun (call : Call) (job : Nest) (history : List ℕ) (answer : Answer) : Type 0 where
-  pub complete : IsComplete step is_finished (opening job call.options) history
-  pub is : answer ≡ reported call job (facts_of complete.last) history (ending job.program job.opening.words)
+-- The answer of a run of a job: with some steps and facts it runs so, and what is told is the outcome of textual order, with
+-- these facts.
+pub record AnswersRun (Runs : List ℕ → Facts → Type 0) (call : Call) (job : Nest) (answer : Answer) : Type 0 where
+  pub history : List ℕ
+  pub facts : Facts
+  pub runs : Runs history facts
+  pub is : answer ≡ told call job.program facts history (outcome job)
 
 -- what `plain` answers to a program on these opening words: the outcome of textual order
 abbrev pub plain_answer : Program → List ℤ → Answer
@@ -105,10 +98,6 @@ deps_answer program = record { status = status.Done; bytes = deps_text program; 
 abbrev pub gen_answer : List ℕ → Answer
 gen_answer text = record { status = status.Done; bytes = text; history = [] }
 
--- what `alone` and `big` answer to a program of the first form on these opening words: a run by the rotation
-abbrev pub RunsAlone : Call → Program → List ℤ → Answer → Type 0
-RunsAlone call program words answer = AnswersRun call (job_of program words) (rotation_of call.options (job_of program words)) answer
-
 -- the answer to an input that is refused
 abbrev pub refused_answer : Refusal → Answer
 refused_answer why = refusal status.TextRefused (reason_text why)
@@ -117,10 +106,9 @@ refused_answer why = refusal status.TextRefused (reason_text why)
 abbrev pub AnswersPlain : Program → List ℤ → Answer → Type 0
 AnswersPlain program words answer = answer ≡ plain_answer program words
 
--- they run the programs of the first form, and refuse each other one
-pub data AnswersAlone (call : Call) (program : Program) (words : List ℤ) (answer : Answer) : Type 0 where
-  runs : IsSpelledFirst program → RunsAlone call program words answer → AnswersAlone call program words answer
-  no_form : (IsSpelledFirst program → ⊥) → answer ≡ refusal status.TextRefused (codes "form") → AnswersAlone call program words answer
+-- so do `alone` and `big`, by an engine and the rotation
+abbrev pub AnswersAlone : Call → Program → List ℤ → Answer → Type 0
+AnswersAlone call program words answer = AnswersRun (RunsAlone (job_of program words) call.options []) call (job_of program words) answer
 
 -- what is answered to what the data lines say, by an action that answers so to the words of a program
 abbrev pub AnswersWords : (List ℤ → Answer → Type 0) → Result Memory Refusal → Answer → Type 0
@@ -172,7 +160,3 @@ Answers call input answer = AnswersCall (is_gen call.action) call input answer
 -- With the same steps, an input has one answer.
 abbrev pub OneAnswer : Type 0
 OneAnswer = (call : Call) (input : List ℕ) (answer other : Answer) → answer.history ≡ other.history → Answers call input answer → Answers call input other → answer ≡ other
-
--- The facts of a run of a job that doesn't trap are those that are due, whatever its history.
-abbrev pub FactsAreDue : Type 0
-FactsAreDue = (call : Call) (job : Nest) → IsFirstForm job.program → IsInRange call.options → (history : List ℕ) (answer : Answer) (run : AnswersRun call job history answer) (words : List ℤ) → ending job.program job.opening.words ≡ Done words → facts_of run.complete.last ≡ facts_due job call.options

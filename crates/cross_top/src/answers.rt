@@ -10,7 +10,6 @@ use crate::alone::alone;
 use crate::refusals::reason_text;
 use crate::status::Status;
 use cross_words::{Action, Call};
-use first_form::is_first_form;
 use nest_check::Checked;
 use nest_data::print_words;
 use nest_gen::generate;
@@ -176,21 +175,9 @@ fn alone_of(alloc: Global, call: &Call, input: &[u8], checked: Checked) -> Resul
     ensures { IfOk result (λ reply. AnswersData (AnswersAlone call.now checked) input.now checked reply) }
 {
     match read_words(alloc, input, &checked) {
-        Ok(words) => alone_or_refused(alloc, call, Job::new(checked, words)),
+        Ok(words) => alone(alloc, call, Job::new(checked, words)),
         Err(InputRefused::Refused(why)) => refused(alloc, why),
         Err(InputRefused::NoMemory) => Err(NoMemory),
-    }
-}
-
-/// The outcome by the engine, where the program is of the first form.
-fn alone_or_refused(alloc: Global, call: &Call, job: Job) -> Result<Reply, NoMemory>
-    requires { IsRunnable call.now.options }
-    ensures { IfOk result (λ reply. AnswersAlone call.now job.program job.opening.words reply) }
-{
-    if is_first_form(job.checked().program()) {
-        alone(alloc, call, job)
-    } else {
-        refusal(alloc, Status::TextRefused, b"form")
     }
 }
 

@@ -12,6 +12,6 @@ mod status;
 mod top;
 mod words;
 
-pub use laws::{facts_are_due, one_answer};
+pub use laws::one_answer;
 pub use status::{Ended, Status, exit_code};
 pub use top::cross_quiet;

@@ -1,6 +1,6 @@
-use crate::jobs::{array, first_job, options};
+use crate::jobs::{array, job_of, options};
 use crate::nests::{BEYOND, FIRST, FIRST_ON_WORDS};
-use domore_engine::Domore;
+use domore_core::Domore;
 use lone_crew::lone_run;
 use nest_input::InputRefused;
 use nest_syntax::{Cause, Line, NoMemory, Place};
@@ -8,6 +8,7 @@ use progress_board::{Ask, Ending, Given, Machine, Row, Work};
 use std::alloc::Global;
 use std::process::Abort;
 use std::test::Fail;
+use task_frame::{Worked, work};
 
 fn open(
     rt: &impl Abort,
@@ -16,7 +17,7 @@ fn open(
     workers: u8,
     queue: u16,
 ) -> Result<Domore, InputRefused> {
-    let job = first_job(rt, alloc, input)?;
+    let job = job_of(rt, alloc, input)?;
     Ok(Domore::open(alloc, job, options(rt, workers, queue))?)
 }
 
@@ -82,11 +83,19 @@ fn ask(rt: &impl Abort, machine: &Domore, actor: u8) -> Ask {
     machine.ask(actor)
 }
 
-fn give(rt: &impl Abort, machine: &mut Domore, actor: u8, row: Row) -> Result<u64, Ask> {
+fn give(rt: &impl Abort, machine: &mut Domore, actor: u8, given: Given) -> Result<u64, Ask> {
     let workers = machine.options().workers;
     assert!(rt; actor as u16 <= workers as u16 + 1);
-    let made = machine.give(actor, Given::Turn(row))?;
+    let made = machine.give(actor, given)?;
     Ok(made.number)
+}
+
+// The piece that an actor is asked to work on, worked on.
+fn worked(rt: &impl Abort, machine: &Domore, actor: u8) -> Option<Worked> {
+    match ask(rt, machine, actor) {
+        Ask::Ready(Work::Hop(piece)) => Some(work(piece)),
+        _ => None,
+    }
 }
 
 // Actor, the answer that it gets, the row that it gives, and the number of what is made, or the answer to a stale row.
@@ -103,12 +112,40 @@ fn a_stale_row_changes_nothing(rt: HostRuntime) -> Result<(), Fail> {
         (2, ready(Row::Dispatch), Row::Dispatch, Ok(0)),
         (0, ready(Row::Take), Row::Drop, Err(ready(Row::Take))),
         (0, ready(Row::Take), Row::Take, Ok(0)),
-        (0, ready(Row::Hop), Row::Finish, Err(ready(Row::Hop))),
-        (0, ready(Row::Hop), Row::Hop, Ok(0)),
         (3, Ask::Ended, Row::Check, Err(Ask::Ended)),
     ] {
         assert_eq!(rt; ask(&rt, &machine, actor), answer, "actor {actor}");
-        assert_eq!(rt; give(&rt, &mut machine, actor, row), made, "actor {actor}");
+        assert_eq!(rt;
+            give(&rt, &mut machine, actor, Given::Turn(row)),
+            made,
+            "actor {actor}"
+        );
+    }
+    Ok(())
+}
+
+// A worker that is asked to work on a piece gives a row in its place, which is refused, and then the piece.
+#[test]
+fn a_piece_is_given_once(rt: HostRuntime) -> Result<(), Fail> {
+    let mut machine = open(&rt, rt.alloc(), FIRST, 2, 1)?;
+    for (actor, row) in [
+        (2, Row::Scalar),
+        (2, Row::Scalar),
+        (2, Row::Scalar),
+        (2, Row::Dispatch),
+        (0, Row::Take),
+    ] {
+        assert_eq!(rt;
+            give(&rt, &mut machine, actor, Given::Turn(row)),
+            Ok(0),
+            "actor {actor}"
+        );
+    }
+    assert!(rt; give(&rt, &mut machine, 0, Given::Turn(Row::Hop)).is_err());
+    let asked = worked(&rt, &machine, 0);
+    assert!(rt; asked.is_some());
+    if let Some(worked) = asked {
+        assert_eq!(rt; give(&rt, &mut machine, 0, Given::Hop(worked)), Ok(0));
     }
     Ok(())
 }

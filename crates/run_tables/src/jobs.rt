@@ -1,9 +1,7 @@
-ghost use Rattle.std.specs.Prelude.{◌≡◌, IfOk, IsTrue};
-ghost use Rattle.nest_syntax.specs.FirstForm.{IsFirstForm};
+ghost use Rattle.std.specs.Prelude.{◌≡◌};
 ghost use Rattle.progress_board.specs.Options.{IsInRange};
 
 use crate::nests::SCATTER;
-use first_form::is_first_form;
 use nest_input::{InputRefused, read_nest, read_words};
 use nest_mean::Job;
 use nest_syntax::NoMemory;
@@ -19,22 +17,6 @@ pub fn job_of(rt: &impl Abort, alloc: Global, input: &str) -> Result<Job, InputR
     let checked = read_nest(alloc, input.as_bytes())?;
     let words = read_words(alloc, input.as_bytes(), &checked)?;
     Ok(Job::new(checked, words))
-}
-
-/// Whether the program of a job is of the first form.
-pub fn is_first(job: &Job) -> bool
-    ensures { IsTrue result → IsFirstForm job.now.program }
-{
-    is_first_form(job.checked().program())
-}
-
-/// The job of an input whose program is of the first form.
-pub fn first_job(rt: &impl Abort, alloc: Global, input: &str) -> Result<Job, InputRefused>
-    ensures { IfOk result (λ job. IsFirstForm job.program) }
-{
-    let job = job_of(rt, alloc, input)?;
-    assert!(rt; is_first(&job));
-    Ok(job)
 }
 
 /// Options in range.

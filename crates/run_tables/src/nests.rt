@@ -13,7 +13,7 @@ a 1 2 3 4
 ix 0 0 2 3
 ";
 
-/// Of the first form.
+/// Each word is computed from another one.
 pub const FIRST: &str = "long a[4];
 for (long t = 0; t < 2; t++) {
   for (long i = 0; i < 4; i++) {

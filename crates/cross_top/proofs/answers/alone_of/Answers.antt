@@ -7,7 +7,7 @@ use Rattle.cross_top.proofs.Replies.{words_answered, fault_answered}
 use Rattle.cross_top.proofs.answers.alone_of.Goals as goal
 
 pub returns-in-Ok : goal.returns-in-Ok
-returns-in-Ok c = words_answered (AnswersAlone c.args.call.now) c.args.input.now c.args.checked c.in-Ok.words _ c.new.ensures c.in-Ok.ensures.said c.alone_or_refused.result c.alone_or_refused.ensures
+returns-in-Ok c = words_answered (AnswersAlone c.args.call.now) c.args.input.now c.args.checked c.in-Ok.words _ c.new.ensures c.in-Ok.ensures.said c.alone.result c.alone.ensures
 
 pub returns-in-Err-Refused : goal.returns-in-Err-Refused
 returns-in-Err-Refused c =

@@ -1,9 +1,0 @@
-pub mod Tallying
-pub mod ByStage
-pub mod Keeping
-pub mod Needing
-pub mod Stepping
-pub mod LastAccesses
-pub mod Updating
-pub mod Histories
-pub mod Handing

@@ -1,5 +1,0 @@
-use Rattle.domore_engine.proofs.Histories.{keeps_job_order}
-use Rattle.domore_engine.proofs.laws.histories_keep_order.Goals as goal
-
-pub returns : goal.returns
-returns c = keeps_job_order

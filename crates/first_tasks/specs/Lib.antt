@@ -1,9 +1,0 @@
-pub mod Form
-pub mod Iterations
-pub mod Claims
-pub mod Positions
-pub mod Pieces
-pub mod Setups
-pub mod Reckoning
-pub mod Frames
-pub mod Stops

@@ -1,0 +1,3 @@
+pub mod Driven
+pub mod Due
+pub mod Crossing

@@ -1,0 +1,53 @@
+ghost use Rattle.std.specs.Prelude.{◌≡◌, IfOk};
+ghost use Rattle.nest_mean.specs.Nest.{CanRun};
+ghost use Rattle.nest_mean.specs.Outcomes.{outcome};
+ghost use Rattle.progress_board.specs.Options.{IsInRange};
+ghost use Rattle.progress_board.specs.Actors.{actors_of};
+ghost use Rattle.progress_board.specs.Rotation.{rotation};
+ghost use Rattle.domore_core.specs.Engine.{step, measure, is_finished, ending_of, words_of, facts_of};
+ghost use Rattle.nest_runtime.specs.Ran.{IsRun};
+ghost use Rattle.nest_runtime.specs.Jobs.{RunsAlone, FactsAreDue};
+
+use crate::ran::Ran;
+use crate::runs::drive_alone;
+use domore_core::{Domore, histories_end_as_job};
+use nest_mean::Job;
+use nest_syntax::NoMemory;
+use progress_board::{Engine, Options};
+use std::alloc::Global;
+
+/// Runs a job with the engine of its options, on the caller's thread: the entries of the schedule whose actors have a step,
+/// and then the rotation.
+pub fn run_alone(
+    alloc: Global,
+    job: Job,
+    options: Options,
+    schedule: &[u8],
+) -> Result<Ran, NoMemory>
+    requires allowed { IsInRange options }
+    requires engine { options.engine ≡ Engine.Domore }
+    ensures outcome { IfOk result (λ ran. ran.outcome ≡ outcome job) }
+    ensures run { IfOk result (λ ran. RunsAlone job options schedule.now ran.history.items ran.facts) }
+{
+    histories_end_as_job();
+    // It tells that the job can be run.
+    let _words = job.words();
+    let machine = Domore::open(alloc, job, options)?;
+    drive_domore(alloc, machine, schedule)
+}
+
+// `drive_alone`, of a machine that is known to cross threads.
+fn drive_domore(alloc: Global, machine: Domore, schedule: &[u8]) -> Result<Ran, NoMemory>
+    ensures run { IfOk result (λ ran. IsRun step is_finished ending_of words_of facts_of machine ran.outcome ran.facts ran.history.items) }
+    ensures rotation { IfOk result (λ ran. ran.history.items ≡ rotation step measure machine (actors_of machine.options) schedule.now) }
+{
+    drive_alone(alloc, machine, schedule)
+}
+
+/// A law: the facts of a run of a job that doesn't trap are those that are due, whatever its history: counts of its events in
+/// textual order, and the waits of all its iterations.
+pub fn facts_are_due()
+    ensures { FactsAreDue }
+{
+    histories_end_as_job();
+}
