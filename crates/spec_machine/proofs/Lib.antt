@@ -21,3 +21,5 @@ pub mod Weights
 pub mod Falls
 pub mod Within
 pub mod Pairs
+pub mod Bounds
+pub mod Events

@@ -1,5 +1,5 @@
 -- Tasks, pairs of tasks, and what the report counts.
-use Rattle.std.specs.Prelude.{ℕ, suc, ◌+◌, Bool, ◌&&◌, ◌==◌, List, [], ◌∷◌, ◌++◌, take}
+use Rattle.std.specs.Prelude.{ℕ, suc, ◌+◌, ◌-◌, ◌^◌, min, Bool, ◌&&◌, ◌==◌, List, [], ◌∷◌, ◌++◌, take}
 use Rattle.nest_syntax.specs.Course.{Purpose, Ordinary, Header}
 
 -- a task is the block of a worker in an epoch; epochs are counted from 0 in their segment
@@ -46,8 +46,12 @@ abbrev pub computed : Purpose → Facts → Facts
 computed Ordinary facts = facts
 computed Header facts = record facts { invocations = suc facts.invocations }
 
+-- The most drains that are told: the count stays there. How many tests there are nothing bounds, so neither are drains.
+abbrev pub most_drains : ℕ
+most_drains = 2 ^ 64 - 1
+
 abbrev pub drained : Facts → Facts
-drained facts = record facts { drains = suc facts.drains }
+drained facts = record facts { drains = min (suc facts.drains) most_drains }
 
 abbrev pub opened : ℕ → Facts → Facts
 opened n facts = record facts { iterations = facts.iterations + n }

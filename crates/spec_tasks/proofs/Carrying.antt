@@ -84,12 +84,12 @@ module _ {B C P Q G : Type 0} (m : Setup B C P G) (f : P → Q) (stop : Q → St
   gone = forget f m.kind
 
   -- a history leads to a state that another one leads to, but for what is forgotten
-  record Before (history : List ℕ) (s : State B C Q G) : Type 0 where
+  pub record Before (history : List ℕ) (s : State B C Q G) : Type 0 where
     pub state : State B C P (List Note)
     pub leads : Leads l nest start history state
     pub same : gone state ≡ s
 
-  before : (history : List ℕ) (s : State B C Q G) → Leads n nest start history s → Before history s
+  pub before : (history : List ℕ) (s : State B C Q G) → Leads n nest start history s → Before history s
   before history s leads = by (run (step l) (opening l start nest.opening) history) refl (sym (histories_same m f stop stops history start nest.opening).0 ∙ leads)
     where
       by : (o : Option (State B C P (List Note))) → run (step l) (opening l start nest.opening) history ≡ o → option_map gone (run (step l) (opening l start nest.opening) history) ≡ Some s → Before history s

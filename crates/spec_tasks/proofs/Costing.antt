@@ -1,6 +1,6 @@
 -- Where costs bound the fuel of each iteration of a nest that an invocation may begin with, they bound all that a cursor
 -- hands out.
-use Rattle.std.proofs.Common.{◌≡◌, ℕ, zero, suc, ◌+◌, ◌<◌, ◌⊎◌, ℤ, Bool, true, false, if◌then◌else◌, ◌==◌, Option, Some, None, List, [], ◌∷◌, ◌++◌, length, refl, subst, ⊎_elim, arith}
+use Rattle.std.proofs.Common.{◌≡◌, ℕ, zero, suc, ◌+◌, ◌<◌, ℤ, Bool, true, false, if◌then◌else◌, ◌==◌, Option, Some, None, List, [], ◌∷◌, ◌++◌, length, refl, subst, ⊎_elim, arith}
 use Rattle.std.specs.Option.{option_map_or}
 use Rattle.nest_syntax.specs.Among.{Each}
 use Rattle.nest_syntax.specs.Outcome.{Event as Passed, Computes as Computed, Drains as Drained}

@@ -1,5 +1,5 @@
 -- What forgets something of its pieces and its notes makes the same moves.
-use Rattle.std.proofs.Common.{◌≡◌, ℕ, zero, suc, ◌+◌, ◌-◌, ℤ, Bool, true, false, ◌&&◌, ◌||◌, not, if◌then◌else◌, nat_lt, nat_le, ◌==◌, Option, Some, None, List, [], ◌∷◌, ◌++◌, length, map, refl, ap, ◌∙◌, sym}
+use Rattle.std.proofs.Common.{◌≡◌, ℕ, zero, suc, ◌+◌, ℤ, Bool, true, false, ◌&&◌, ◌||◌, not, if◌then◌else◌, nat_lt, nat_le, ◌==◌, Option, Some, None, List, [], ◌∷◌, ◌++◌, length, map, refl, ap, ◌∙◌, sym}
 use Rattle.std.proofs.Math.ListN.{get_or-map}
 use Rattle.std.proofs.lemmas.List.{map-set, map-append}
 use Rattle.std.specs.Prelude.{slice_set, slice_index_or, replicate}
@@ -66,7 +66,7 @@ module _ {B C P Q G : Type 0} (m : Setup B C P G) (f : P → Q) (stop : Q → St
   abbrev State_l : Type 0
   State_l = State B C P (List Note)
 
-  seat_same : (seats : List (Seat P (List Note))) (u : ℕ) → seat_at (map seat seats) u ≡ seat (seat_at seats u)
+  pub seat_same : (seats : List (Seat P (List Note))) (u : ℕ) → seat_at (map seat seats) u ≡ seat (seat_at seats u)
   seat_same seats u = get_or-map seat seats u fresh_seat
 
   done_same : (seats : List (Seat P (List Note))) (u : ℕ) → done_at (map seat seats) u ≡ done_at seats u

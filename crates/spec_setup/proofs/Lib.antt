@@ -1,0 +1,9 @@
+pub mod Signs
+pub mod Follows
+pub mod Right
+pub mod Keeps
+pub mod Blocks
+pub mod Headers
+pub mod Counts
+pub mod Going
+pub mod Scripts

@@ -1,0 +1,6 @@
+use Rattle.dep_graph.proofs.Apart.{do_all_is_apart}
+use Rattle.spec_setup.proofs.Right.{setups_right}
+use Rattle.spec_setup.proofs.setups_are_right.Goals as goal
+
+pub returns : goal.returns
+returns g c = λ program opening code cursor signs width room far prepared stops bounds. setups_right do_all_is_apart program opening code cursor signs width room far prepared stops bounds
