@@ -1,7 +1,8 @@
-//! The program `cross`: `cross_quiet` of `cross_top` over the command words and the standard streams.
+//! The program `cross`: `cross_main` of `cross_top` over the command words and the standard streams.
 #![tactic(auto)]
 
-use cross_top::{Status, cross_quiet, exit_code};
+use cross_crew::OpenGate;
+use cross_top::{Status, cross_main, exit_code};
 use nest_io::{StdSink, StdSource};
 use nest_syntax::NoMemory;
 use std::env;
@@ -20,7 +21,15 @@ fn cross(rt: &HostRuntime) -> Status {
     };
     let mut source = StdSource::new(rt);
     let mut sink = StdSink::new(rt);
-    let ended = cross_quiet(rt.alloc(), words.as_slice(), &mut source, &mut sink);
+    let alloc = rt.alloc();
+    let ended = cross_main(
+        rt,
+        alloc,
+        words.as_slice(),
+        &mut source,
+        &mut sink,
+        &OpenGate,
+    );
     ended.status
 }
 

@@ -18,7 +18,7 @@ use Rattle.cross_words.specs.declared.call.Action.{Action}
 use Rattle.cross_words.specs.declared.call.Action.TheVariants.{Plain, Check, Deps, Alone, Replay, Profile, Gen, Big, Run}
 use Rattle.cross_words.specs.declared.call.Call.{Call}
 use Rattle.cross_top.proofs.Textual.{ended_same}
-use Rattle.cross_top.specs.Answers.{Answer, ended, told, told_steps, done_text, job_of, AnswersRun, AnswersPlain, AnswersAlone, AnswersWords, AnswersData, AnswersProgram, AnswersNest, AnswersInput, too_long, a_text, AnswersCall, is_gen, OneAnswer}
+use Rattle.cross_top.specs.Answers.{Answer, ended, told, told_steps, done_text, job_of, AnswersRun, AnswersPlain, AnswersAlone, AnswersThreads, AnswersWords, AnswersData, AnswersProgram, AnswersNest, AnswersInput, too_long, a_text, AnswersCall, is_gen, OneAnswer}
 
 -- a run of a call tells its steps
 steps_told : (call : Call) (program : Program) (facts : Facts) (history : List ℕ) (o : Outcome) → (told call program facts history o).history ≡ told_steps call history
@@ -55,6 +55,9 @@ one_plain program words answer other steps is is' = is ∙ sym is'
 one_alone : FactsAreDue → (call : Call) (program : Program) → IsOne (AnswersAlone call program)
 one_alone due call program words answer other steps is is' = one_run due _ call (job_of program words) (λ history facts runs. runs.runs) answer other steps is is'
 
+one_threads : FactsAreDue → (call : Call) (program : Program) → IsOne (AnswersThreads call program)
+one_threads due call program words answer other steps is is' = one_run due _ call (job_of program words) (λ history facts runs. runs) answer other steps is is'
+
 of_words : (Acts : List ℤ → Answer → Type 0) → IsOne Acts → (said : Result Memory Refusal) (answer other : Answer) → answer.history ≡ other.history → AnswersWords Acts said answer → AnswersWords Acts said other → answer ≡ other
 of_words Acts one (Ok memory) answer other steps is is' = one memory.words answer other steps is is'
 of_words Acts one (Err why) answer other steps is is' = is ∙ sym is'
@@ -74,7 +77,7 @@ module _ (due : FactsAreDue) (one_nest : (input : List ℕ) (said other : Result
   of_program Gen call input program answer other steps is is' = absurd is
   of_program Replay call input program answer other steps is is' = absurd is
   of_program Profile call input program answer other steps is is' = absurd is
-  of_program Run call input program answer other steps is is' = absurd is
+  of_program Run call input program answer other steps is is' = of_data (AnswersThreads call program) (one_threads due call program) input program answer other steps is is'
 
   of_nest : (call : Call) (input : List ℕ) (said : Result Program Refusal) (answer other : Answer) → answer.history ≡ other.history → AnswersNest call input said answer → AnswersNest call input said other → answer ≡ other
   of_nest call input (Ok program) answer other steps is is' = of_program call.action call input program answer other steps is is'

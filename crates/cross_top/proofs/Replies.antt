@@ -19,8 +19,9 @@ use Rattle.cross_words.specs.declared.call.Action.TheVariants.{Plain, Check, Dep
 use Rattle.cross_words.specs.declared.call.Call.{Call}
 use Rattle.nest_gen.specs.Generated.{generated}
 use Rattle.cross_top.specs.Words.{Ask, AskToRead, IsRunnable, is_domore, reads_input}
-use Rattle.cross_top.specs.Answers.{Answer, refusal, refused_answer, job_of, AnswersData, AnswersProgram, AnswersInput, too_long, a_text, Answers, AnswersCall, gen_answer, is_gen}
-use Rattle.cross_top.specs.Ends.{SourceChange, IsDue, IsDueTo, TakesInput, TakesWhere}
+use Rattle.cross_top.specs.Threads.{is_threaded, IsThreaded}
+use Rattle.cross_top.specs.Answers.{Answer, refusal, refused_answer, job_of, AnswersData, AnswersProgram, AnswersInput, too_long, a_text, Answers, AnswersCall, AnswersThreads, gen_answer, is_gen}
+use Rattle.cross_top.specs.Ends.{SourceChange, IsDue, IsDueTo, TakesInput, TakesWhere, IsAnsweredFrom}
 
 -- the answer to a nest that is a program
 pub program_answered : (r : Result Answer NoMemory) (call : Call) (input : List ℕ) (program : Program) → length input ≤ MOST_BYTES → SaysNest input (Ok program) → IfOk r (λ reply. AnswersProgram call.action call input program reply) → IfOk r (λ reply. AnswersInput call input reply)
@@ -41,10 +42,6 @@ words_answered Acts input program memory nest is says (Err e) h = tt
 pub fault_answered : (Acts : Program → List ℤ → Answer → Type 0) (input : List ℕ) (program : Program) (why : Refusal) → SaysWords input program (Err why) → (r : Result Answer NoMemory) → IfOk r (λ reply. reply ≡ refused_answer why) → IfOk r (λ reply. AnswersData (Acts program) input program reply)
 fault_answered Acts input program why says (Ok reply) h = record { said = Err why; says = says; answers = h }
 fault_answered Acts input program why says (Err e) h = tt
-
--- a call is answered from these bytes of a source
-abbrev pub IsAnsweredFrom : Call → SourceChange → Answer → Type 0
-IsAnsweredFrom call source reply = (input : List ℕ) × TakesInput source input × AnswersInput call input reply
 
 -- the answer to an input that was taken whole
 pub taken_is_due : (s : Result Answer Unanswered) (r : Result Answer NoMemory) (call : Call) (source : SourceChange) (e : Unanswered) → MatchResult r (λ reply. s ≡ Ok reply) (λ _. s ≡ Err e) → (input : List ℕ) → IfOk r (λ reply. AnswersInput call input reply) → TakesInput source input → IfOk s (λ reply. IsAnsweredFrom call source reply)
@@ -114,3 +111,24 @@ generated_printed reply call input text same printed is = subst (λ b. AnswersCa
 pub generated_run : (r : Result Answer NoMemory) (call : Call) (input text : List ℕ) → text ≡ input → is_gen call.action ≡ false → IfOk r (λ reply. AnswersInput call text reply) → IfOk r (λ reply. Answers call input reply)
 generated_run (Ok reply) call input text same none h = subst (λ b. AnswersCall b call input reply) (sym none) (subst (λ (i : List ℕ). AnswersInput call i reply) same h)
 generated_run (Err e) call input text same none h = tt
+
+-- what `run` answers to a program is what its call does
+pub threads_answered : (r : Result Answer NoMemory) (call : Call) (input : List ℕ) (program : Program) → call.action ≡ Run → IfOk r (λ reply. AnswersData (AnswersThreads call program) input program reply) → IfOk r (λ reply. AnswersProgram call.action call input program reply)
+threads_answered r call input program is h = subst (λ (a : Action). IfOk r (λ reply. AnswersProgram a call input program reply)) (sym is) h
+
+threads_at : (action : Action) (engine : Engine) → is_threaded action engine ≡ true → (action ≡ Run) × (is_domore engine ≡ true)
+threads_at Run engine is = (refl, is)
+threads_at Plain engine is = cc
+threads_at Check engine is = cc
+threads_at Deps engine is = cc
+threads_at Alone engine is = cc
+threads_at Replay engine is = cc
+threads_at Profile engine is = cc
+threads_at Gen engine is = cc
+threads_at Big engine is = cc
+
+-- a call that is run by threads can be run
+pub runs_threads : (call : Call) → IsInRange call.options → is_threaded call.action call.options.engine ≡ true → IsThreaded call
+runs_threads call allowed is =
+    let both = threads_at call.action call.options.engine is in
+    record { action = both.0; runs = runs_domore call.options allowed both.1 }

@@ -10,19 +10,28 @@ use Rattle.progress_board.specs.declared.facts.Facts.{Facts}
 use Rattle.progress_board.specs.declared.options.Options.{Options}
 use Rattle.cross_words.specs.declared.call.Call.{Call}
 use Rattle.cross_top.specs.declared.status.Status.{Status}
-use Rattle.cross_top.specs.Answers.{Answer, is_summary, ended, told, told_steps, AnswersRun, AnswersAlone, job_of}
+use Rattle.cross_top.specs.Answers.{Answer, is_summary, ended, told, told_steps, AnswersRun, AnswersAlone, AnswersThreads, job_of}
 
 -- a job that is run can be run, so its sizes are those of its program
 own_job : (job : Nest) (options : Options) (history : List ℕ) (facts : Facts) → RunsJob job options history facts → job ≡ job_of job.program job.opening.words
 own_job job options history facts (by_domore can allowed engine run) = λ i. record { program = job.program; opening = record { sizes = can.sizes i; words = job.opening.words } }
 
--- what `alone` and `big` answer, from what their calls leave
+-- what a call answers with a run, from what the calls of that leave
+module _ (call : Call) (Runs : Nest → List ℕ → Facts → Type 0) (is_job : (job : Nest) (history : List ℕ) (facts : Facts) → Runs job history facts → RunsJob job call.options history facts) where
+  run_due : (r : Result Answer NoMemory) (job : Nest) (facts : Facts) (history : List ℕ) → Runs job history facts → (copy : Nest) → copy ≡ job → IfOk r (λ reply. reply ≡ told call copy.program facts history (outcome copy))
+      → IfOk r (λ reply. AnswersRun (Runs (job_of job.program job.opening.words)) call (job_of job.program job.opening.words) reply)
+  run_due (Err x) job facts history runs copy same h = tt
+  run_due (Ok reply) job facts history runs copy same h =
+      subst (λ (j : Nest). AnswersRun (Runs j) call j reply) (own_job job call.options history facts (is_job job history facts runs))
+      (record { history = history; facts = facts; runs = runs; is = subst (λ (j : Nest). reply ≡ told call j.program facts history (outcome j)) same h })
+
 pub alone_due : (r : Result Answer NoMemory) (job : Nest) (call : Call) (facts : Facts) (history : List ℕ) → RunsAlone job call.options [] history facts
     → (copy : Nest) → copy ≡ job → IfOk r (λ reply. reply ≡ told call copy.program facts history (outcome copy)) → IfOk r (λ reply. AnswersAlone call job.program job.opening.words reply)
-alone_due (Err x) job call facts history runs copy same h = tt
-alone_due (Ok reply) job call facts history runs copy same h =
-    subst (λ (j : Nest). AnswersRun (RunsAlone j call.options []) call j reply) (own_job job call.options history facts runs.runs)
-    (record { history = history; facts = facts; runs = runs; is = subst (λ (j : Nest). reply ≡ told call j.program facts history (outcome j)) same h })
+alone_due r job call facts history runs copy same h = run_due call (λ j h f. RunsAlone j call.options [] h f) (λ j h f alone. alone.runs) r job facts history runs copy same h
+
+pub threads_due : (r : Result Answer NoMemory) (job : Nest) (call : Call) (facts : Facts) (history : List ℕ) → RunsJob job call.options history facts
+    → (copy : Nest) → copy ≡ job → IfOk r (λ reply. reply ≡ told call copy.program facts history (outcome copy)) → IfOk r (λ reply. AnswersThreads call job.program job.opening.words reply)
+threads_due r job call facts history runs copy same h = run_due call (λ j h f. RunsJob j call.options h f) (λ j h f job. job) r job facts history runs copy same h
 
 -- with the same steps told, the same is told of them
 module _ (call : Call) (status : Status) (text history other : List ℕ) where

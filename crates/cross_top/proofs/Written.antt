@@ -17,9 +17,9 @@ use Rattle.nest_mean.specs.declared.outcomes.Outcome.{Outcome}
 use Rattle.nest_mean.specs.declared.outcomes.Outcome.TheVariants as outcomes
 use Rattle.nest_mean.specs.Outcomes.{outcome}
 use Rattle.cross_top.specs.Answers.{Answer, refusal, refused_answer, printed, told, job_of, plain_answer, check_answer, deps_answer, gen_answer, is_gen}
-use Rattle.cross_top.specs.Answers.{AnswersPlain, AnswersAlone, AnswersWords, AnswersProgram, AnswersNest, AnswersInput, too_long, a_text, AnswersCall}
+use Rattle.cross_top.specs.Answers.{AnswersPlain, AnswersAlone, AnswersThreads, AnswersWords, AnswersProgram, AnswersNest, AnswersInput, too_long, a_text, AnswersCall}
 use Rattle.cross_top.specs.Words.{AskToRead}
-use Rattle.cross_top.specs.Ends.{SourceChange, IsDue, IsDueTo, Ends}
+use Rattle.cross_top.specs.Ends.{SourceChange, IsDue, IsDueTo, IsAnsweredFrom, EndsWith, Ends}
 
 -- what is untold or told is kept where nothing happens
 pub kept : (bytes : Option (List ℕ)) → Keeps bytes bytes
@@ -56,6 +56,11 @@ alone_answers call program words answer run =
     let job = job_of program words in
     is_answering answer (told call program run.facts run.history (outcome job)) run.is (told_answers call program run.facts run.history (outcome job))
 
+threads_answers : (call : Call) (program : Program) (words : List ℤ) (answer : Answer) → AnswersThreads call program words answer → IsAnswering answer.status
+threads_answers call program words answer run =
+    let job = job_of program words in
+    is_answering answer (told call program run.facts run.history (outcome job)) run.is (told_answers call program run.facts run.history (outcome job))
+
 words_answers : (Acts : List ℤ → Answer → Type 0) → ((words : List ℤ) (answer : Answer) → Acts words answer → IsAnswering answer.status) → (said : Result Memory Refusal) (answer : Answer) → AnswersWords Acts said answer → IsAnswering answer.status
 words_answers Acts acts (Ok memory) answer is = acts memory.words answer is
 words_answers Acts acts (Err why) answer is = is_answering answer (refused_answer why) is tt
@@ -69,7 +74,7 @@ program_answers Big call input program answer is = words_answers (AnswersAlone c
 program_answers Gen call input program answer is = absurd is
 program_answers Replay call input program answer is = absurd is
 program_answers Profile call input program answer is = absurd is
-program_answers Run call input program answer is = absurd is
+program_answers Run call input program answer is = words_answers (AnswersThreads call program) (threads_answers call program) is.said answer is.answers
 
 nest_answers : (call : Call) (input : List ℕ) (said : Result Program Refusal) (answer : Answer) → AnswersNest call input said answer → IsAnswering answer.status
 nest_answers call input (Ok program) answer is = program_answers call.action call input program answer is
@@ -87,31 +92,71 @@ due_answers : (asked : Option Call) (source : SourceChange) (answer : Answer) �
 due_answers None source answer due = is_answering answer (refusal status.WordsRefused (codes "words")) due.1 tt
 due_answers (Some call) source answer due = call_answers (is_gen call.action) call due.0 answer due.2
 
--- an answer that is due isn't cut by itself
-pub due_is_whole : (words : List (List ℕ)) (source : SourceChange) (answer : Answer) → IsDue words source answer → answer.status ≢ status.WriteFault
-due_is_whole words source answer due cut = subst IsAnswering cut (due_answers due.0 source answer due.2)
+-- of answers that are due, each of which has the status of an answer
+module _ (Due : Answer → Type 0) (answering : (answer : Answer) → Due answer → IsAnswering answer.status) where
+  -- none is cut by itself
+  is_whole : (answer : Answer) → Due answer → answer.status ≢ status.WriteFault
+  is_whole answer due cut = subst IsAnswering cut (answering answer due)
 
--- a call that ends at a fault of reading
-pub ends_unread : (words : List (List ℕ)) (source : SourceChange) (sink : Option (List ℕ)) (HasRoom : ℕ → Type 0) (s : Status) (history : List ℕ) → s ≡ status.ReadFault → history ≡ [] → AskToRead words → Ends words source sink sink HasRoom s history
-ends_unread words source sink HasRoom s history is none asks = subst (λ (x : Status). Ends words source sink sink HasRoom x history) (sym is) (asks, kept sink, none)
+  -- none is ended as a failed read
+  is_read : (sink sink' : Option (List ℕ)) (answer : Answer) (s : Status) → Due answer → (s ≢ status.WriteFault → (s ≡ answer.status) × Appends sink sink' answer.bytes) → s ≡ status.ReadFault → ⊥
+  is_read sink sink' answer s due written read =
+      let w = written (λ e. let no : status.ReadFault ≡ status.WriteFault = sym read ∙ e in cc) in
+      subst IsAnswering (sym w.0 ∙ read) (answering answer due)
 
--- an answer that is due is never ended as a failed read
-pub never_read : (words : List (List ℕ)) (source : SourceChange) (sink sink' : Option (List ℕ)) (answer : Answer) (s : Status) → IsDue words source answer
-    → (s ≢ status.WriteFault → (s ≡ answer.status) × Appends sink sink' answer.bytes) → s ≡ status.ReadFault → ⊥
-never_read words source sink sink' answer s due written read =
-    let w = written (λ e. let no : status.ReadFault ≡ status.WriteFault = sym read ∙ e in cc) in
-    subst IsAnswering (sym w.0 ∙ read) (due_answers due.0 source answer due.2)
+  -- written, or cut
+  ends_with : (Reads : Type 0) (sink sink' : Option (List ℕ)) (HasRoom : ℕ → Type 0) (answer : Answer) (s : Status) → Due answer
+      → (s ≢ status.WriteFault → (s ≡ answer.status) × Appends sink sink' answer.bytes)
+      → (s ≡ status.WriteFault → answer.status ≢ status.WriteFault → AppendsPart sink sink' answer.bytes × ((room : ℕ) → HasRoom room → room < length answer.bytes))
+      → EndsWith Due Reads sink sink' HasRoom s answer.history
+  ends_with Reads sink sink' HasRoom answer status.Done due written cut = let w = written (λ e. cc) in (answer, due, sym w.0, refl, w.1)
+  ends_with Reads sink sink' HasRoom answer status.Trapped due written cut = let w = written (λ e. cc) in (answer, due, sym w.0, refl, w.1)
+  ends_with Reads sink sink' HasRoom answer status.WordsRefused due written cut = let w = written (λ e. cc) in (answer, due, sym w.0, refl, w.1)
+  ends_with Reads sink sink' HasRoom answer status.TextRefused due written cut = let w = written (λ e. cc) in (answer, due, sym w.0, refl, w.1)
+  ends_with Reads sink sink' HasRoom answer status.ReadFault due written cut = absurd (subst IsAnswering (sym (written (λ e. cc)).0) (answering answer due))
+  ends_with Reads sink sink' HasRoom answer status.NoMemory due written cut = absurd (subst IsAnswering (sym (written (λ e. cc)).0) (answering answer due))
+  ends_with Reads sink sink' HasRoom answer status.WriteFault due written cut = let c = cut refl (is_whole answer due) in (answer, due, refl, c.0, c.1)
 
--- an answer that was written, or cut
-module _ (words : List (List ℕ)) (source : SourceChange) (sink sink' : Option (List ℕ)) (HasRoom : ℕ → Type 0) (answer : Answer) where
-  pub ends_written : (s : Status) → IsDue words source answer
+-- of a call that waits for nobody
+module _ (words : List (List ℕ)) (source : SourceChange) where
+  words_due : (answer : Answer) → IsDue words source answer → IsAnswering answer.status
+  words_due answer due = due_answers due.0 source answer due.2
+
+  pub due_is_whole : (answer : Answer) → IsDue words source answer → answer.status ≢ status.WriteFault
+  due_is_whole = is_whole (IsDue words source) words_due
+
+  pub never_read : (sink sink' : Option (List ℕ)) (answer : Answer) (s : Status) → IsDue words source answer → (s ≢ status.WriteFault → (s ≡ answer.status) × Appends sink sink' answer.bytes) → s ≡ status.ReadFault → ⊥
+  never_read = is_read (IsDue words source) words_due
+
+  pub ends_written : (sink sink' : Option (List ℕ)) (HasRoom : ℕ → Type 0) (answer : Answer) (s : Status) → IsDue words source answer
       → (s ≢ status.WriteFault → (s ≡ answer.status) × Appends sink sink' answer.bytes)
       → (s ≡ status.WriteFault → answer.status ≢ status.WriteFault → AppendsPart sink sink' answer.bytes × ((room : ℕ) → HasRoom room → room < length answer.bytes))
       → Ends words source sink sink' HasRoom s answer.history
-  ends_written status.Done due written cut = let w = written (λ e. cc) in (answer, due, sym w.0, refl, w.1)
-  ends_written status.Trapped due written cut = let w = written (λ e. cc) in (answer, due, sym w.0, refl, w.1)
-  ends_written status.WordsRefused due written cut = let w = written (λ e. cc) in (answer, due, sym w.0, refl, w.1)
-  ends_written status.TextRefused due written cut = let w = written (λ e. cc) in (answer, due, sym w.0, refl, w.1)
-  ends_written status.ReadFault due written cut = absurd (subst IsAnswering (sym (written (λ e. cc)).0) (due_answers due.0 source answer due.2))
-  ends_written status.NoMemory due written cut = absurd (subst IsAnswering (sym (written (λ e. cc)).0) (due_answers due.0 source answer due.2))
-  ends_written status.WriteFault due written cut = let c = cut refl (due_is_whole words source answer due) in (answer, due, refl, c.0, c.1)
+  ends_written = ends_with (IsDue words source) words_due (AskToRead words)
+
+  -- one that ends at a fault of reading
+  pub ends_unread : (sink : Option (List ℕ)) (HasRoom : ℕ → Type 0) (s : Status) (history : List ℕ) → s ≡ status.ReadFault → history ≡ [] → AskToRead words → Ends words source sink sink HasRoom s history
+  ends_unread sink HasRoom s history is none asks = subst (λ (x : Status). Ends words source sink sink HasRoom x history) (sym is) (asks, kept sink, none)
+
+-- of one by threads
+module _ (call : Call) (source : SourceChange) where
+  taken_due : (answer : Answer) → IsAnsweredFrom call source answer → IsAnswering answer.status
+  taken_due answer due = input_answers call due.0 answer due.2
+
+  pub run_is_whole : (answer : Answer) → IsAnsweredFrom call source answer → answer.status ≢ status.WriteFault
+  run_is_whole = is_whole (IsAnsweredFrom call source) taken_due
+
+  pub run_never_read : (sink sink' : Option (List ℕ)) (answer : Answer) (s : Status) → IsAnsweredFrom call source answer → (s ≢ status.WriteFault → (s ≡ answer.status) × Appends sink sink' answer.bytes) → s ≡ status.ReadFault → ⊥
+  run_never_read = is_read (IsAnsweredFrom call source) taken_due
+
+  pub run_ends : (sink sink' : Option (List ℕ)) (HasRoom : ℕ → Type 0) (answer : Answer) (s : Status) → IsAnsweredFrom call source answer
+      → (s ≢ status.WriteFault → (s ≡ answer.status) × Appends sink sink' answer.bytes)
+      → (s ≡ status.WriteFault → answer.status ≢ status.WriteFault → AppendsPart sink sink' answer.bytes × ((room : ℕ) → HasRoom room → room < length answer.bytes))
+      → EndsWith (IsAnsweredFrom call source) (Unit {0}) sink sink' HasRoom s answer.history
+  run_ends = ends_with (IsAnsweredFrom call source) taken_due (Unit {0})
+
+  pub run_ends_early : (sink : Option (List ℕ)) (HasRoom : ℕ → Type 0) (s : Status) (history : List ℕ) → s ≡ status.ReadFault → history ≡ [] → EndsWith (IsAnsweredFrom call source) (Unit {0}) sink sink HasRoom s history
+  run_ends_early sink HasRoom s history is none = subst (λ (x : Status). EndsWith (IsAnsweredFrom call source) (Unit {0}) sink sink HasRoom x history) (sym is) (tt, kept sink, none)
+
+  pub run_ends_full : (sink : Option (List ℕ)) (HasRoom : ℕ → Type 0) (s : Status) (history : List ℕ) → s ≡ status.NoMemory → history ≡ [] → EndsWith (IsAnsweredFrom call source) (Unit {0}) sink sink HasRoom s history
+  run_ends_full sink HasRoom s history is none = subst (λ (x : Status). EndsWith (IsAnsweredFrom call source) (Unit {0}) sink sink HasRoom x history) (sym is) (kept sink, none)

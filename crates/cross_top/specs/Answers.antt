@@ -22,7 +22,7 @@ use Rattle.nest_mean.specs.Nest.{Nest}
 use Rattle.nest_mean.specs.Outcomes.{outcome}
 use Rattle.nest_mean.specs.declared.outcomes.Outcome.{Outcome}
 use Rattle.nest_mean.specs.declared.outcomes.Outcome.TheVariants as outcomes
-use Rattle.nest_runtime.specs.Jobs.{RunsAlone}
+use Rattle.nest_runtime.specs.Jobs.{RunsJob, RunsAlone}
 use Rattle.progress_board.specs.declared.facts.Facts.{Facts}
 use Rattle.nest_report.specs.Report.{report_text, summary_text}
 use Rattle.cross_top.specs.Refusals.{reason_text}
@@ -110,6 +110,10 @@ AnswersPlain program words answer = answer ≡ plain_answer program words
 abbrev pub AnswersAlone : Call → Program → List ℤ → Answer → Type 0
 AnswersAlone call program words answer = AnswersRun (RunsAlone (job_of program words) call.options []) call (job_of program words) answer
 
+-- so does `run`, by an engine whose actors have threads, in some order
+abbrev pub AnswersThreads : Call → Program → List ℤ → Answer → Type 0
+AnswersThreads call program words answer = AnswersRun (RunsJob (job_of program words) call.options) call (job_of program words) answer
+
 -- what is answered to what the data lines say, by an action that answers so to the words of a program
 abbrev pub AnswersWords : (List ℤ → Answer → Type 0) → Result Memory Refusal → Answer → Type 0
 AnswersWords Acts (Err why) answer = answer ≡ refused_answer why
@@ -122,7 +126,7 @@ pub record AnswersData (Acts : List ℤ → Answer → Type 0) (input : List ℕ
   pub answers : AnswersWords Acts said answer
 
 -- What an action answers to an input with this program. `check` and `deps` don't look at the data lines. `gen` reads none,
--- and the last three are never asked for.
+-- and `replay` and `profile` are never asked for.
 abbrev pub AnswersProgram : Action → Call → List ℕ → Program → Answer → Type 0
 AnswersProgram Plain call input program answer = AnswersData (AnswersPlain program) input program answer
 AnswersProgram Check call input program answer = answer ≡ check_answer program
@@ -132,7 +136,7 @@ AnswersProgram Big call input program answer = AnswersData (AnswersAlone call pr
 AnswersProgram Gen call input program answer = ⊥
 AnswersProgram Replay call input program answer = ⊥
 AnswersProgram Profile call input program answer = ⊥
-AnswersProgram Run call input program answer = ⊥
+AnswersProgram Run call input program answer = AnswersData (AnswersThreads call program) input program answer
 
 -- what a call answers to what the nest of an input says
 abbrev pub AnswersNest : Call → List ℕ → Result Program Refusal → Answer → Type 0

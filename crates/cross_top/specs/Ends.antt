@@ -8,7 +8,7 @@ use Rattle.cross_top.specs.declared.status.Status.TheVariants as status
 use Rattle.cross_words.specs.declared.call.Call.{Call}
 use Rattle.nest_gen.specs.Generated.{generated}
 use Rattle.cross_top.specs.Words.{Ask, AskToRead, reads_input}
-use Rattle.cross_top.specs.Answers.{Answer, refusal, Answers}
+use Rattle.cross_top.specs.Answers.{Answer, refusal, Answers, AnswersInput}
 
 -- What became of a source: what it tells of the bytes to come, before and behind, and whether its end was answered.
 pub record SourceChange : Type 0 where
@@ -36,22 +36,30 @@ IsDueTo (Some call) source answer = (input : List ℕ) × TakesWhere (reads_inpu
 abbrev pub IsDue : List (List ℕ) → SourceChange → Answer → Type 0
 IsDue words source answer = (asked : Option Call) × Ask words asked × IsDueTo asked source answer
 
--- the answer that is due has this status and these steps, and was written, all of it
-abbrev pub IsWritten : List (List ℕ) → SourceChange → (sink sink' : Option (List ℕ)) → Status → List ℕ → Type 0
-IsWritten words source sink sink' status history = (answer : Answer) × IsDue words source answer × (answer.status ≡ status) × (answer.history ≡ history) × Appends sink sink' answer.bytes
+-- what a call answers to bytes that were taken from a source
+abbrev pub IsAnsweredFrom : Call → SourceChange → Answer → Type 0
+IsAnsweredFrom call source answer = (input : List ℕ) × TakesInput source input × AnswersInput call input answer
 
--- A proper prefix of the answer that is due was written, into a sink that hadn't surely room for all of it. Its steps
--- were made.
-abbrev pub IsCut : List (List ℕ) → SourceChange → (sink sink' : Option (List ℕ)) → (ℕ → Type 0) → List ℕ → Type 0
-IsCut words source sink sink' HasRoom history = (answer : Answer) × IsDue words source answer × (answer.history ≡ history) × AppendsPart sink sink' answer.bytes × ((room : ℕ) → HasRoom room → room < length answer.bytes)
+-- an answer that is due has this status and these steps, and was written, all of it
+abbrev pub IsWritten : (Answer → Type 0) → (sink sink' : Option (List ℕ)) → Status → List ℕ → Type 0
+IsWritten Due sink sink' status history = (answer : Answer) × Due answer × (answer.status ≡ status) × (answer.history ≡ history) × Appends sink sink' answer.bytes
 
--- How a call with these words ends with this status and this history. A source or a sink that doesn't tell leaves its
--- part open.
+-- A proper prefix of an answer that is due was written, into a sink that hadn't surely room for all of it. Its steps were
+-- made.
+abbrev pub IsCut : (Answer → Type 0) → (sink sink' : Option (List ℕ)) → (ℕ → Type 0) → List ℕ → Type 0
+IsCut Due sink sink' HasRoom history = (answer : Answer) × Due answer × (answer.history ≡ history) × AppendsPart sink sink' answer.bytes × ((room : ℕ) → HasRoom room → room < length answer.bytes)
+
+-- How a call ends to which such answers are due, and which may read where `Reads` holds: with this status and this history.
+-- A sink that doesn't tell leaves its part open.
+abbrev pub EndsWith : (Due : Answer → Type 0) (Reads : Type 0) (sink sink' : Option (List ℕ)) → (ℕ → Type 0) → Status → List ℕ → Type 0
+EndsWith Due Reads sink sink' HasRoom status.Done history = IsWritten Due sink sink' status.Done history
+EndsWith Due Reads sink sink' HasRoom status.Trapped history = IsWritten Due sink sink' status.Trapped history
+EndsWith Due Reads sink sink' HasRoom status.WordsRefused history = IsWritten Due sink sink' status.WordsRefused history
+EndsWith Due Reads sink sink' HasRoom status.TextRefused history = IsWritten Due sink sink' status.TextRefused history
+EndsWith Due Reads sink sink' HasRoom status.ReadFault history = Reads × Keeps sink sink' × (history ≡ [])
+EndsWith Due Reads sink sink' HasRoom status.WriteFault history = IsCut Due sink sink' HasRoom history
+EndsWith Due Reads sink sink' HasRoom status.NoMemory history = Keeps sink sink' × (history ≡ [])
+
+-- How a call with these words ends that waits for nobody.
 abbrev pub Ends : List (List ℕ) → SourceChange → (sink sink' : Option (List ℕ)) → (ℕ → Type 0) → Status → List ℕ → Type 0
-Ends words source sink sink' HasRoom status.Done history = IsWritten words source sink sink' status.Done history
-Ends words source sink sink' HasRoom status.Trapped history = IsWritten words source sink sink' status.Trapped history
-Ends words source sink sink' HasRoom status.WordsRefused history = IsWritten words source sink sink' status.WordsRefused history
-Ends words source sink sink' HasRoom status.TextRefused history = IsWritten words source sink sink' status.TextRefused history
-Ends words source sink sink' HasRoom status.ReadFault history = AskToRead words × Keeps sink sink' × (history ≡ [])
-Ends words source sink sink' HasRoom status.WriteFault history = IsCut words source sink sink' HasRoom history
-Ends words source sink sink' HasRoom status.NoMemory history = Keeps sink sink' × (history ≡ [])
+Ends words source sink sink' HasRoom status history = EndsWith (IsDue words source) (AskToRead words) sink sink' HasRoom status history

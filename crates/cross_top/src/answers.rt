@@ -52,7 +52,7 @@ pub fn refusal(alloc: Global, status: Status, reason: &[u8]) -> Result<Reply, No
 }
 
 /// The answer to an input that is refused.
-fn refused(alloc: Global, why: Refusal) -> Result<Reply, NoMemory>
+pub fn refused(alloc: Global, why: Refusal) -> Result<Reply, NoMemory>
     ensures { IfOk result (λ reply. reply ≡ refused_answer why) }
 {
     let reason = reason_text(alloc, &why)?;

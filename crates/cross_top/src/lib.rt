@@ -9,9 +9,11 @@ mod answers;
 mod laws;
 mod refusals;
 mod status;
+mod threads;
 mod top;
 mod words;
 
 pub use laws::one_answer;
 pub use status::{Ended, Status, exit_code};
+pub use threads::cross_main;
 pub use top::cross_quiet;

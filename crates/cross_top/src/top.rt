@@ -16,7 +16,7 @@ use std::alloc::Global;
 
 /// Why there is no answer.
 #[derive(Clone, Copy, Debug, PartialEq, Eq)]
-enum Unanswered {
+pub enum Unanswered {
     Read,
     NoMemory,
 }
@@ -55,7 +55,7 @@ pub fn cross_quiet<S: Source, K: Sink>(
     }
 }
 
-fn ended_early(alloc: Global, status: Status) -> Ended
+pub fn ended_early(alloc: Global, status: Status) -> Ended
     ensures status { result.status ≡ status }
     ensures history { result.history.items ≡ [] }
 {
@@ -66,7 +66,7 @@ fn ended_early(alloc: Global, status: Status) -> Ended
 }
 
 /// Writes an answer whole, or as much of it as the sink takes before a fault.
-fn write<K: Sink>(reply: &Reply, sink: &mut K) -> Status
+pub fn write<K: Sink>(reply: &Reply, sink: &mut K) -> Status
     ensures written { result ≢ Status.WriteFault → (result ≡ reply.now.status) × Appends (K.written sink.old) (K.written sink.new) reply.now.bytes }
     ensures cut { result ≡ Status.WriteFault → reply.now.status ≢ Status.WriteFault → AppendsPart (K.written sink.old) (K.written sink.new) reply.now.bytes
         × ((room : ℕ) → K.has_room sink.old room → room < length reply.now.bytes) }
@@ -135,7 +135,7 @@ fn answer_source<S: Source>(alloc: Global, call: &Call, source: &mut S) -> Resul
     }
 }
 
-fn or_no_memory(reply: Result<Reply, NoMemory>) -> Result<Reply, Unanswered>
+pub fn or_no_memory(reply: Result<Reply, NoMemory>) -> Result<Reply, Unanswered>
     ensures { MatchResult reply (λ r. result ≡ Ok r) (λ _. result ≡ Err Unanswered.NoMemory) }
 {
     match reply {

@@ -1,6 +1,7 @@
 //! What the command words ask the program for.
 ghost use Rattle.std.specs.Prelude.{◌≡◌, IfOk, IfSome, map, string_bytes};
 ghost use Rattle.cross_top.specs.Words as asked;
+ghost use Rattle.cross_top.specs.Threads as threads;
 
 use cross_words::{Action, Call, WordsRefused, calls_are_in_range, one_call, read_words};
 use nest_syntax::NoMemory;
@@ -48,6 +49,38 @@ pub fn asked(alloc: Global, words: &[String]) -> Result<Option<Call>, NoMemory>
     match read_words(alloc, words) {
         Ok(call) => {
             if is_answered(call.action, call.options.engine) {
+                Ok(Some(call))
+            } else {
+                Ok(None)
+            }
+        }
+        Err(WordsRefused::Words) => Ok(None),
+        Err(WordsRefused::NoMemory) => Err(NoMemory),
+    }
+}
+
+/// Whether an action by an engine is run by threads.
+fn is_threaded(action: Action, engine: Engine) -> bool
+    ensures { result ≡ threads.is_threaded action engine }
+{
+    match action {
+        Action::Run => is_domore(engine),
+        Action::Plain | Action::Check | Action::Deps | Action::Gen => false,
+        Action::Alone | Action::Big | Action::Replay | Action::Profile => false,
+    }
+}
+
+/// The call that the words ask for, where it is one that is run by threads.
+#[tactic(auto, using(crate::proofs::Replies::runs_threads))]
+pub fn asked_to_run(alloc: Global, words: &[String]) -> Result<Option<Call>, NoMemory>
+    ensures asked { IfOk result (λ call. threads.AskToRun (map string_bytes words.now) call) }
+    ensures threaded { IfOk result (λ call. IfSome call threads.IsThreaded) }
+{
+    one_call();
+    calls_are_in_range();
+    match read_words(alloc, words) {
+        Ok(call) => {
+            if is_threaded(call.action, call.options.engine) {
                 Ok(Some(call))
             } else {
                 Ok(None)

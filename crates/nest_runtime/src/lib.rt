@@ -7,7 +7,9 @@
 mod jobs;
 mod ran;
 mod runs;
+mod threads;
 
 pub use jobs::{facts_are_due, run_alone};
 pub use ran::Ran;
 pub use runs::{drive_alone, drive_crew, drive_strict};
+pub use threads::run_job;
