@@ -6,16 +6,18 @@ use cross_top::{Status, cross_main, exit_code};
 use nest_io::{StdSink, StdSource};
 use nest_syntax::NoMemory;
 use std::env;
-use std::io::ErrorKind;
+use std::io::{ErrorKind, Input, Print};
 use std::process::ExitCode;
 use std::rt::Env;
+use std::sync::Wait;
+use std::thread::Threads;
 
 fn main(rt: HostRuntime) -> ExitCode {
     exit_code(cross(&rt))
 }
 
 /// A call with the words and the streams of the process.
-fn cross(rt: &HostRuntime) -> Status {
+fn cross<R: Env + Input + Print + AllocGlobal + Threads + Wait + Sync>(rt: &R) -> Status {
     let Ok(words) = command_words(rt) else {
         return Status::NoMemory;
     };
