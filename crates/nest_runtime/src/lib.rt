@@ -8,6 +8,6 @@ mod jobs;
 mod ran;
 mod runs;
 
-pub use jobs::{facts_are_due, run_alone};
+pub use jobs::{facts_are_due, run_alone, run_strict};
 pub use ran::Ran;
 pub use runs::{drive_alone, drive_crew, drive_strict};
