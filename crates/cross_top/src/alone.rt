@@ -32,7 +32,7 @@ pub fn alone(alloc: Global, call: &Call, job: Job) -> Result<Reply, NoMemory>
 }
 
 /// What is told of a run of a job.
-fn told(alloc: Global, call: &Call, job: &Job, ran: Ran) -> Result<Reply, NoMemory>
+pub fn told(alloc: Global, call: &Call, job: &Job, ran: Ran) -> Result<Reply, NoMemory>
     requires { ran.outcome ≡ outcome job.now }
     ensures { IfOk result (λ reply. reply ≡ told call.now job.now.program ran.facts ran.history.items (outcome job.now)) }
 {
