@@ -6,7 +6,7 @@ use Rattle.nest_syntax.specs.declared.tree.Program.{Program}
 use Rattle.word_store.specs.Memory.{Memory, HasLayout}
 use Rattle.nest_io.specs.declared.transfer.TheConstants.{MOST_BYTES}
 use Rattle.nest_input.specs.declared.refused.Refusal.{Refusal}
-use Rattle.nest_input.specs.Input.{SaysNest, SaysWords}
+use Rattle.nest_input.specs.Input.{SaysNest, SaysWords, SaysSteps}
 use Rattle.nest_mean.specs.Nest.{Nest}
 use Rattle.progress_board.specs.Options.{IsInRange}
 use Rattle.progress_board.specs.declared.options.Options.{Options}
@@ -20,7 +20,7 @@ use Rattle.cross_words.specs.declared.call.Call.{Call}
 use Rattle.nest_gen.specs.Generated.{generated}
 use Rattle.cross_top.specs.Words.{Ask, AskToRead, IsRunnable, is_domore, reads_input}
 use Rattle.cross_top.specs.Threads.{is_threaded, IsThreaded}
-use Rattle.cross_top.specs.Answers.{Answer, refusal, refused_answer, job_of, AnswersData, AnswersProgram, AnswersInput, too_long, a_text, Answers, AnswersCall, AnswersThreads, gen_answer, is_gen}
+use Rattle.cross_top.specs.Answers.{Answer, refusal, refused_answer, job_of, AnswersData, AnswersProgram, AnswersInput, too_long, a_text, Answers, AnswersCall, AnswersThreads, gen_answer, is_gen, word_refused, AnswersSteps, AnswersReplay}
 use Rattle.cross_top.specs.Ends.{SourceChange, IsDue, IsDueTo, TakesInput, TakesWhere, IsAnsweredFrom}
 
 -- the answer to a nest that is a program
@@ -42,6 +42,18 @@ words_answered Acts input program memory nest is says (Err e) h = tt
 pub fault_answered : (Acts : Program → List ℤ → Answer → Type 0) (input : List ℕ) (program : Program) (why : Refusal) → SaysWords input program (Err why) → (r : Result Answer NoMemory) → IfOk r (λ reply. reply ≡ refused_answer why) → IfOk r (λ reply. AnswersData (Acts program) input program reply)
 fault_answered Acts input program why says (Ok reply) h = record { said = Err why; says = says; answers = h }
 fault_answered Acts input program why says (Err e) h = tt
+
+-- the answer of `replay`, to steps
+pub actors_answered : (r : Result Answer NoMemory) (call : Call) (input : List ℕ) (job : Nest) (steps : List ℕ) → SaysSteps input call.options.workers (Ok steps)
+    → IfOk r (λ reply. AnswersSteps call (job_of job.program job.opening.words) steps reply) → IfOk r (λ reply. AnswersReplay call input job.program job.opening.words reply)
+actors_answered (Ok reply) call input job steps says h = record { said = Ok steps; says = says; answers = h }
+actors_answered (Err e) call input job steps says h = tt
+
+-- and to a step word that names no actor
+pub stranger_answered : (r : Result Answer NoMemory) (call : Call) (input : List ℕ) (job : Nest) (n : ℕ) → SaysSteps input call.options.workers (Err n)
+    → IfOk r (λ reply. reply ≡ word_refused n) → IfOk r (λ reply. AnswersReplay call input job.program job.opening.words reply)
+stranger_answered (Ok reply) call input job n says h = record { said = Err n; says = says; answers = h }
+stranger_answered (Err e) call input job n says h = tt
 
 -- the answer to an input that was taken whole
 pub taken_is_due : (s : Result Answer Unanswered) (r : Result Answer NoMemory) (call : Call) (source : SourceChange) (e : Unanswered) → MatchResult r (λ reply. s ≡ Ok reply) (λ _. s ≡ Err e) → (input : List ℕ) → IfOk r (λ reply. AnswersInput call input reply) → TakesInput source input → IfOk s (λ reply. IsAnsweredFrom call source reply)

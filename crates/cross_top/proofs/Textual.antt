@@ -2,19 +2,22 @@
 use Rattle.std.proofs.Common.{◌≡◌, ℕ, Bool, true, false, if◌then◌else◌, ◌++◌, Result, Ok, Err, IfOk, List, [], refl, sym, subst, ap, ◌∙◌}
 use Rattle.nest_syntax.specs.declared.names.NoMemory.{NoMemory}
 use Rattle.nest_syntax.specs.Outcome.{Ending, Done, TrappedAt, ending}
-use Rattle.nest_mean.specs.Nest.{Nest}
+use Rattle.nest_mean.specs.Nest.{Nest, CanRun}
 use Rattle.nest_mean.specs.Outcomes.{outcome, as_outcome}
-use Rattle.nest_runtime.specs.Jobs.{RunsJob, by_domore, RunsAlone}
+use Rattle.nest_runtime.specs.Jobs.{RunsJob, by_domore, RunsAlone, RunsStrict, RefusesStep, of_domore}
 use Rattle.nest_report.specs.Steps.{steps_text}
 use Rattle.progress_board.specs.declared.facts.Facts.{Facts}
 use Rattle.progress_board.specs.declared.options.Options.{Options}
 use Rattle.cross_words.specs.declared.call.Call.{Call}
 use Rattle.cross_top.specs.declared.status.Status.{Status}
-use Rattle.cross_top.specs.Answers.{Answer, is_summary, ended, told, told_steps, AnswersRun, AnswersAlone, AnswersThreads, job_of}
+use Rattle.cross_top.specs.Answers.{Answer, is_summary, ended, told, told_steps, AnswersRun, AnswersAlone, AnswersThreads, job_of, step_refused, AnswersSteps, ran, not_enabled}
 
--- a job that is run can be run, so its sizes are those of its program
+-- a job that can be run has the sizes of its program
+own_sizes : (job : Nest) → CanRun job → job ≡ job_of job.program job.opening.words
+own_sizes job can = λ i. record { program = job.program; opening = record { sizes = can.sizes i; words = job.opening.words } }
+
 own_job : (job : Nest) (options : Options) (history : List ℕ) (facts : Facts) → RunsJob job options history facts → job ≡ job_of job.program job.opening.words
-own_job job options history facts (by_domore can allowed engine run) = λ i. record { program = job.program; opening = record { sizes = can.sizes i; words = job.opening.words } }
+own_job job options history facts (by_domore can allowed engine run) = own_sizes job can
 
 -- what a call answers with a run, from what the calls of that leave
 module _ (call : Call) (Runs : Nest → List ℕ → Facts → Type 0) (is_job : (job : Nest) (history : List ℕ) (facts : Facts) → Runs job history facts → RunsJob job call.options history facts) where
@@ -44,3 +47,18 @@ module _ (call : Call) (status : Status) (text history other : List ℕ) where
 
   pub ended_same : told_steps call history ≡ told_steps call other → ended call status text history ≡ ended call status text other
   ended_same same = by_kind (is_summary call.action) same
+
+-- what is answered of a run by given steps
+pub steps_due : (r : Result Answer NoMemory) (job : Nest) (call : Call) (steps : List ℕ) (facts : Facts) (history : List ℕ) → RunsStrict job call.options steps history facts
+    → (copy : Nest) → copy ≡ job → IfOk r (λ reply. reply ≡ told call copy.program facts history (outcome copy)) → IfOk r (λ reply. AnswersSteps call (job_of job.program job.opening.words) steps reply)
+steps_due (Err x) job call steps facts history runs copy same h = tt
+steps_due (Ok reply) job call steps facts history runs copy same h = ran (run_due call (λ j h f. RunsStrict j call.options steps h f) (λ j h f strict. strict.alone.runs) (Ok reply) job facts history runs copy same h)
+
+own_refusal : (job : Nest) (options : Options) (steps : List ℕ) (n : ℕ) → RefusesStep job options steps n → job ≡ job_of job.program job.opening.words
+own_refusal job options steps n (of_domore can allowed engine refused) = own_sizes job can
+
+-- and of a step that is refused
+pub step_due : (r : Result Answer NoMemory) (job : Nest) (call : Call) (steps : List ℕ) (n : ℕ) → RefusesStep job call.options steps n → IfOk r (λ reply. reply ≡ step_refused n)
+    → IfOk r (λ reply. AnswersSteps call (job_of job.program job.opening.words) steps reply)
+step_due (Err x) job call steps n refuses h = tt
+step_due (Ok reply) job call steps n refuses h = not_enabled n (subst (λ (j : Nest). RefusesStep j call.options steps n) (own_refusal job call.options steps n refuses) refuses) h

@@ -16,8 +16,7 @@ use Rattle.progress_board.specs.declared.facts.Facts.{Facts}
 use Rattle.nest_mean.specs.declared.outcomes.Outcome.{Outcome}
 use Rattle.nest_mean.specs.declared.outcomes.Outcome.TheVariants as outcomes
 use Rattle.nest_mean.specs.Outcomes.{outcome}
-use Rattle.cross_top.specs.Answers.{Answer, refusal, refused_answer, printed, told, job_of, plain_answer, check_answer, deps_answer, gen_answer, is_gen}
-use Rattle.cross_top.specs.Answers.{AnswersPlain, AnswersAlone, AnswersThreads, AnswersWords, AnswersProgram, AnswersNest, AnswersInput, too_long, a_text, AnswersCall}
+use Rattle.cross_top.specs.Answers.{Answer, refusal, refused_answer, printed, told, job_of, plain_answer, check_answer, deps_answer, gen_answer, is_gen, AnswersPlain, AnswersAlone, AnswersThreads, AnswersWords, AnswersProgram, AnswersNest, AnswersInput, too_long, a_text, AnswersCall, word_refused, step_refused, AnswersRun, AnswersSteps, ran, not_enabled, AnswersActors, AnswersReplay}
 use Rattle.cross_top.specs.Words.{AskToRead}
 use Rattle.cross_top.specs.Ends.{SourceChange, IsDue, IsDueTo, IsAnsweredFrom, EndsWith, Ends}
 
@@ -51,15 +50,22 @@ is_answering answer due is answers = subst (λ (a : Answer). IsAnswering a.statu
 plain_answers : (program : Program) (words : List ℤ) (answer : Answer) → AnswersPlain program words answer → IsAnswering answer.status
 plain_answers program words answer is = is_answering answer (plain_answer program words) is (printed_answers program (ending program words))
 
+run_answers : (Runs : List ℕ → Facts → Type 0) (call : Call) (job : Nest) (answer : Answer) → AnswersRun Runs call job answer → IsAnswering answer.status
+run_answers Runs call job answer run = is_answering answer (told call job.program run.facts run.history (outcome job)) run.is (told_answers call job.program run.facts run.history (outcome job))
+
 alone_answers : (call : Call) (program : Program) (words : List ℤ) (answer : Answer) → AnswersAlone call program words answer → IsAnswering answer.status
-alone_answers call program words answer run =
-    let job = job_of program words in
-    is_answering answer (told call program run.facts run.history (outcome job)) run.is (told_answers call program run.facts run.history (outcome job))
+alone_answers call program words answer run = run_answers _ call (job_of program words) answer run
+
+actors_answers : (call : Call) (job : Nest) (said : Result (List ℕ) ℕ) (answer : Answer) → AnswersActors call job said answer → IsAnswering answer.status
+actors_answers call job (Ok steps) answer (ran run) = run_answers _ call job answer run
+actors_answers call job (Ok steps) answer (not_enabled n refuses is) = is_answering answer (step_refused n) is tt
+actors_answers call job (Err n) answer is = is_answering answer (word_refused n) is tt
+
+replay_answers : (call : Call) (input : List ℕ) (program : Program) (words : List ℤ) (answer : Answer) → AnswersReplay call input program words answer → IsAnswering answer.status
+replay_answers call input program words answer is = actors_answers call (job_of program words) is.said answer is.answers
 
 threads_answers : (call : Call) (program : Program) (words : List ℤ) (answer : Answer) → AnswersThreads call program words answer → IsAnswering answer.status
-threads_answers call program words answer run =
-    let job = job_of program words in
-    is_answering answer (told call program run.facts run.history (outcome job)) run.is (told_answers call program run.facts run.history (outcome job))
+threads_answers call program words answer run = run_answers _ call (job_of program words) answer run
 
 words_answers : (Acts : List ℤ → Answer → Type 0) → ((words : List ℤ) (answer : Answer) → Acts words answer → IsAnswering answer.status) → (said : Result Memory Refusal) (answer : Answer) → AnswersWords Acts said answer → IsAnswering answer.status
 words_answers Acts acts (Ok memory) answer is = acts memory.words answer is
@@ -72,7 +78,7 @@ program_answers Deps call input program answer is = is_answering answer (deps_an
 program_answers Alone call input program answer is = words_answers (AnswersAlone call program) (alone_answers call program) is.said answer is.answers
 program_answers Big call input program answer is = words_answers (AnswersAlone call program) (alone_answers call program) is.said answer is.answers
 program_answers Gen call input program answer is = absurd is
-program_answers Replay call input program answer is = absurd is
+program_answers Replay call input program answer is = words_answers (AnswersReplay call input program) (replay_answers call input program) is.said answer is.answers
 program_answers Profile call input program answer is = absurd is
 program_answers Run call input program answer is = words_answers (AnswersThreads call program) (threads_answers call program) is.said answer is.answers
 

@@ -1,12 +1,12 @@
 -- What an action answers: the status that it ends with and the bytes that it prints.
-use Rattle.std.specs.Prelude.{◌≡◌, ℕ, ◌≤◌, ◌<◌, ℤ, Bool, true, false, if◌then◌else◌, Result, Ok, Err, List, [], ◌∷◌, ◌++◌, codes, length}
+use Rattle.std.specs.Prelude.{◌≡◌, ◌↔◌, ℕ, ◌≤◌, ◌<◌, ℤ, Bool, true, false, if◌then◌else◌, Result, Ok, Err, List, [], ◌∷◌, ◌++◌, codes, decimal, length}
 use Rattle.nest_syntax.specs.declared.tree.Program.{Program}
 use Rattle.nest_syntax.specs.Arrays.{arrays_of, sizes_of}
 use Rattle.nest_syntax.specs.Outcome.{Ending, Done, TrappedAt, ending}
 use Rattle.word_store.specs.Memory.{Memory}
 use Rattle.nest_io.specs.declared.transfer.TheConstants.{MOST_BYTES}
 use Rattle.nest_input.specs.declared.refused.Refusal.{Refusal}
-use Rattle.nest_input.specs.Input.{SaysNest, SaysWords}
+use Rattle.nest_input.specs.Input.{SaysNest, SaysWords, SaysSteps}
 use Rattle.nest_print.specs.Canonical.{canonical_text}
 use Rattle.nest_data.specs.Sum.{written_words, sum_of}
 use Rattle.nest_data.specs.Text.{array_lines}
@@ -22,7 +22,7 @@ use Rattle.nest_mean.specs.Nest.{Nest}
 use Rattle.nest_mean.specs.Outcomes.{outcome}
 use Rattle.nest_mean.specs.declared.outcomes.Outcome.{Outcome}
 use Rattle.nest_mean.specs.declared.outcomes.Outcome.TheVariants as outcomes
-use Rattle.nest_runtime.specs.Jobs.{RunsJob, RunsAlone}
+use Rattle.nest_runtime.specs.Jobs.{RunsJob, RunsAlone, RunsStrict, RefusesStep}
 use Rattle.progress_board.specs.declared.facts.Facts.{Facts}
 use Rattle.nest_report.specs.Report.{report_text, summary_text}
 use Rattle.cross_top.specs.Refusals.{reason_text}
@@ -102,6 +102,13 @@ gen_answer text = record { status = status.Done; bytes = text; history = [] }
 abbrev pub refused_answer : Refusal → Answer
 refused_answer why = refusal status.TextRefused (reason_text why)
 
+-- the answer to a step word that names no actor, and to a step that isn't enabled in its turn, by their numbers from 0
+abbrev pub word_refused : ℕ → Answer
+word_refused n = refusal status.TextRefused (codes "step word " ++ decimal n)
+
+abbrev pub step_refused : ℕ → Answer
+step_refused n = refusal status.TextRefused (codes "step " ++ decimal n)
+
 -- `plain` runs every program
 abbrev pub AnswersPlain : Program → List ℤ → Answer → Type 0
 AnswersPlain program words answer = answer ≡ plain_answer program words
@@ -113,6 +120,23 @@ AnswersAlone call program words answer = AnswersRun (RunsAlone (job_of program w
 -- so does `run`, by an engine whose actors have threads, in some order
 abbrev pub AnswersThreads : Call → Program → List ℤ → Answer → Type 0
 AnswersThreads call program words answer = AnswersRun (RunsJob (job_of program words) call.options) call (job_of program words) answer
+
+-- What `replay` answers to a job and the actors of the given steps: a run by these steps and then the rotation, or the first
+-- of them that isn't enabled.
+pub data AnswersSteps (call : Call) (job : Nest) (steps : List ℕ) (answer : Answer) : Type 0 where
+  ran : AnswersRun (RunsStrict job call.options steps) call job answer → AnswersSteps call job steps answer
+  not_enabled : (n : ℕ) → RefusesStep job call.options steps n → answer ≡ step_refused n → AnswersSteps call job steps answer
+
+-- to a job and what the step words say
+abbrev pub AnswersActors : Call → Nest → Result (List ℕ) ℕ → Answer → Type 0
+AnswersActors call job (Ok steps) answer = AnswersSteps call job steps answer
+AnswersActors call job (Err n) answer = answer ≡ word_refused n
+
+-- and to a program, for the step words of an input
+pub record AnswersReplay (call : Call) (input : List ℕ) (program : Program) (words : List ℤ) (answer : Answer) : Type 0 where
+  pub said : Result (List ℕ) ℕ
+  pub says : SaysSteps input call.options.workers said
+  pub answers : AnswersActors call (job_of program words) said answer
 
 -- what is answered to what the data lines say, by an action that answers so to the words of a program
 abbrev pub AnswersWords : (List ℤ → Answer → Type 0) → Result Memory Refusal → Answer → Type 0
@@ -126,7 +150,7 @@ pub record AnswersData (Acts : List ℤ → Answer → Type 0) (input : List ℕ
   pub answers : AnswersWords Acts said answer
 
 -- What an action answers to an input with this program. `check` and `deps` don't look at the data lines. `gen` reads none,
--- and `replay` and `profile` are never asked for.
+-- and `profile` is never asked for.
 abbrev pub AnswersProgram : Action → Call → List ℕ → Program → Answer → Type 0
 AnswersProgram Plain call input program answer = AnswersData (AnswersPlain program) input program answer
 AnswersProgram Check call input program answer = answer ≡ check_answer program
@@ -134,7 +158,7 @@ AnswersProgram Deps call input program answer = answer ≡ deps_answer program
 AnswersProgram Alone call input program answer = AnswersData (AnswersAlone call program) input program answer
 AnswersProgram Big call input program answer = AnswersData (AnswersAlone call program) input program answer
 AnswersProgram Gen call input program answer = ⊥
-AnswersProgram Replay call input program answer = ⊥
+AnswersProgram Replay call input program answer = AnswersData (AnswersReplay call input program) input program answer
 AnswersProgram Profile call input program answer = ⊥
 AnswersProgram Run call input program answer = AnswersData (AnswersThreads call program) input program answer
 
@@ -161,6 +185,11 @@ is_gen _ = false
 abbrev pub Answers : Call → List ℕ → Answer → Type 0
 Answers call input answer = AnswersCall (is_gen call.action) call input answer
 
--- With the same steps, an input has one answer.
+-- two answers refuse the same step, or none of them refuses one
+abbrev pub RefuseSameStep : Answer → Answer → Type 0
+RefuseSameStep answer other = (n : ℕ) → (answer ≡ step_refused n) ↔ (other ≡ step_refused n)
+
+-- With the same steps, an input has one answer. Which step `replay` refuses isn't settled by this: its two answers have to
+-- refuse the same, or none.
 abbrev pub OneAnswer : Type 0
-OneAnswer = (call : Call) (input : List ℕ) (answer other : Answer) → answer.history ≡ other.history → Answers call input answer → Answers call input other → answer ≡ other
+OneAnswer = (call : Call) (input : List ℕ) (answer other : Answer) → answer.history ≡ other.history → (call.action ≡ Replay → RefuseSameStep answer other) → Answers call input answer → Answers call input other → answer ≡ other

@@ -23,7 +23,7 @@ is_domore Speccross = false
 is_domore Barrier = false
 
 -- Whether an action by an engine is answered. The words for any other are refused: no engine but `domore` stands, nor what
--- `replay` and `profile` need, and `run` has threads, while this call waits for nobody.
+-- `profile` needs, and `run` has threads, while this call waits for nobody.
 abbrev pub is_answered : Action → Engine → Bool
 is_answered Plain engine = true
 is_answered Check engine = true
@@ -31,7 +31,7 @@ is_answered Deps engine = true
 is_answered Gen engine = true
 is_answered Alone engine = is_domore engine
 is_answered Big engine = is_domore engine
-is_answered Replay engine = false
+is_answered Replay engine = is_domore engine
 is_answered Profile engine = false
 is_answered Run engine = false
 

@@ -2,12 +2,13 @@ ghost use Rattle.std.specs.Prelude.{◌≡◌, ◌≤◌, true, false, IfOk, len
 ghost use Rattle.nest_io.specs.declared.transfer.TheConstants.{MOST_BYTES};
 ghost use Rattle.nest_gen.specs.Generated.{generated};
 ghost use Rattle.cross_top.specs.Answers.{refusal, refused_answer, plain_answer, check_answer, deps_answer, gen_answer};
-ghost use Rattle.cross_top.specs.Answers.{Answers, AnswersInput, AnswersProgram, AnswersData, AnswersPlain, AnswersAlone, is_gen};
+ghost use Rattle.cross_top.specs.Answers.{Answers, AnswersInput, AnswersProgram, AnswersData, AnswersPlain, AnswersAlone, AnswersReplay, is_gen};
 ghost use Rattle.progress_board.specs.Options.{IsInRange};
 ghost use Rattle.cross_top.specs.Words.{IsAnswerable, IsRunnable, is_answered};
 
 use crate::alone::alone;
 use crate::refusals::reason_text;
+use crate::replay::replay;
 use crate::status::Status;
 use cross_words::{Action, Call};
 use nest_check::Checked;
@@ -125,8 +126,8 @@ fn answer_program(
         Action::Deps => kinds(alloc, &checked),
         Action::Alone => alone_of(alloc, call, input, checked),
         Action::Big => alone_of(alloc, call, input, checked),
+        Action::Replay => replay_of(alloc, call, input, checked),
         Action::Gen => unreachable!(),
-        Action::Replay => unreachable!(),
         Action::Profile => unreachable!(),
         Action::Run => unreachable!(),
     }
@@ -176,6 +177,19 @@ fn alone_of(alloc: Global, call: &Call, input: &[u8], checked: Checked) -> Resul
 {
     match read_words(alloc, input, &checked) {
         Ok(words) => alone(alloc, call, Job::new(checked, words)),
+        Err(InputRefused::Refused(why)) => refused(alloc, why),
+        Err(InputRefused::NoMemory) => Err(NoMemory),
+    }
+}
+
+/// What `replay` answers to an input with this program.
+fn replay_of(alloc: Global, call: &Call, input: &[u8], checked: Checked) -> Result<Reply, NoMemory>
+    requires few { length input.now ≤ MOST_BYTES }
+    requires runnable { IsRunnable call.now.options }
+    ensures { IfOk result (λ reply. AnswersData (AnswersReplay call.now input.now checked) input.now checked reply) }
+{
+    match read_words(alloc, input, &checked) {
+        Ok(words) => replay(alloc, call, input, Job::new(checked, words)),
         Err(InputRefused::Refused(why)) => refused(alloc, why),
         Err(InputRefused::NoMemory) => Err(NoMemory),
     }

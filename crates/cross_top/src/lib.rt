@@ -8,6 +8,7 @@ mod alone;
 mod answers;
 mod laws;
 mod refusals;
+mod replay;
 mod status;
 mod threads;
 mod top;

@@ -25,8 +25,8 @@ fn is_answered(action: Action, engine: Engine) -> bool
 {
     match action {
         Action::Plain | Action::Check | Action::Deps | Action::Gen => true,
-        Action::Alone | Action::Big => is_domore(engine),
-        Action::Replay | Action::Profile | Action::Run => false,
+        Action::Alone | Action::Replay | Action::Big => is_domore(engine),
+        Action::Profile | Action::Run => false,
     }
 }
 

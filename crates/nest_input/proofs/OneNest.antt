@@ -19,7 +19,8 @@ use Rattle.nest_input.specs.declared.refused.Refusal.TheVariants as refusal
 use Rattle.word_store.specs.Memory.{Memory}
 use Rattle.nest_syntax.specs.Arrays.{arrays_of}
 use Rattle.nest_data.specs.Data.{data_of}
-use Rattle.nest_input.specs.Input.{IsNest, no_tokens, no_program, no_rules, a_nest, SaysNest, SaysWords, token_refusal, spot_at, nest_in, data_in, words_said}
+use Rattle.step_words.specs.Steps.{first_stranger}
+use Rattle.nest_input.specs.Input.{IsNest, no_tokens, no_program, no_rules, a_nest, SaysNest, SaysWords, token_refusal, spot_at, SaysSteps, nest_in, data_in, steps_in, words_said, actors_said}
 
 abbrev rule_refusal : Option (ℕ × Line) → Refusal → Refusal
 rule_refusal None otherwise = otherwise
@@ -77,3 +78,9 @@ one_words input program said other says says' =
     says.words
     ∙ ap (λ parts. words_said (data_of program.names (arrays_of program.decls) parts.data_line (data_in input parts))) (one_division input says.parts says'.parts says.divided says'.divided)
     ∙ sym says'.words
+
+pub one_steps : (input : List ℕ) (workers : ℕ) (said other : Result (List ℕ) ℕ) → SaysSteps input workers said → SaysSteps input workers other → said ≡ other
+one_steps input workers said other says says' =
+    says.actors
+    ∙ ap (λ parts. actors_said workers (steps_in input parts) (first_stranger workers (steps_in input parts))) (one_division input says.parts says'.parts says.divided says'.divided)
+    ∙ sym says'.actors

@@ -24,6 +24,13 @@ module _ (text : List ℕ) where
   values_within p (with_data start stop no_data no_steps line no_more) = (omega arith, omega arith)
   values_within p (with_both start stop last end no_data no_steps line ordered no_more steps) = (ordered, omega (arith, steps.ends.ordered, steps.ends.within))
 
+  -- and the step words
+  pub steps_within : (p : Parts) → IsParts text p → IfSome p.steps (λ at. at ≤ length text)
+  steps_within p (nest_alone no_data no_steps) = tt
+  steps_within p (with_steps start stop no_data no_steps line) = omega arith
+  steps_within p (with_data start stop no_data no_steps line no_more) = tt
+  steps_within p (with_both start stop last end no_data no_steps line ordered no_more steps) = omega arith
+
   feeds : (at : ℕ) → count_by is_line_feed (take at text) ≤ at
   feeds at = omega (arith, count_by-le-length is_line_feed (take at text), length-take at text)
 

@@ -1,5 +1,7 @@
--- What an input says: the program of its nest, or what is wrong with it; and the words that its data lines give.
-use Rattle.std.specs.Prelude.{◌≡◌, ℕ, Some, None, Result, Ok, Err, List, [], slice_get, slice_range, take}
+-- What an input says: the program of its nest, or what is wrong with it; the words that its data lines give; and the
+-- actors that its step words name.
+use Rattle.std.specs.Prelude.{◌≡◌, ℕ, Option, Some, None, Result, Ok, Err, List, [], slice_get, slice_range, take, drop}
+use Rattle.std.specs.List.{filter_map}
 use Rattle.std.specs.Option.{option_map_or}
 use Rattle.nest_syntax.specs.declared.names.Line.{Line}
 use Rattle.nest_syntax.specs.declared.tree.Program.{Program}
@@ -17,17 +19,23 @@ use Rattle.nest_check.specs.Broken.{IsBroken}
 use Rattle.word_store.specs.Memory.{Memory}
 use Rattle.nest_data.specs.declared.refused.DataKind.{DataKind}
 use Rattle.nest_data.specs.Data.{data_of}
+use Rattle.step_words.specs.declared.refused.StepsRefused.{StepsRefused}
+use Rattle.step_words.specs.declared.refused.StepsRefused.TheVariants as stepping
+use Rattle.step_words.specs.Steps.{words_in, actor_of, first_stranger}
 use Rattle.nest_input.specs.declared.refused.Refusal.{Refusal}
 use Rattle.nest_input.specs.declared.refused.Refusal.TheVariants as refusal
 use Rattle.nest_input.specs.declared.refused.InputRefused.{InputRefused}
 use Rattle.nest_input.specs.declared.refused.InputRefused.TheVariants as refused
 
--- the nest of an input, and the bytes of its data lines
+-- the nest of an input, the bytes of its data lines, and its step words
 abbrev pub nest_in : List ℕ → Parts → List ℕ
 nest_in input parts = take parts.nest_end input
 
 abbrev pub data_in : List ℕ → Parts → List ℕ
 data_in input parts = option_map_or (λ (p : ℕ × ℕ). slice_range input p.0 p.1) parts.values []
+
+abbrev pub steps_in : List ℕ → Parts → List (List ℕ)
+steps_in input parts = words_in (option_map_or (λ (at : ℕ). drop at input) parts.steps [])
 
 abbrev pub token_refusal : LexKind → Spot → Refusal
 token_refusal lexing.Dense spot = refusal.Dense spot
@@ -67,3 +75,19 @@ abbrev pub Tells : {A : Type 0} → (Result A Refusal → Type 0) → Result A I
 Tells Says (Ok value) = Says (Ok value)
 Tells Says (Err (refused.Refused why)) = Says (Err why)
 Tells Says (Err refused.NoMemory) = Unit {0}
+
+-- the actors that step words name, or the number, from 0, of the first word that names none
+abbrev pub actors_said : ℕ → List (List ℕ) → Option ℕ → Result (List ℕ) ℕ
+actors_said workers words None = Ok (filter_map (actor_of workers) words)
+actors_said workers words (Some n) = Err n
+
+-- what the step words of an input say to so many workers; without the line `steps` there are none
+pub record SaysSteps (input : List ℕ) (workers : ℕ) (said : Result (List ℕ) ℕ) : Type 0 where
+  pub parts : Parts
+  pub divided : IsParts input parts
+  pub actors : said ≡ actors_said workers (steps_in input parts) (first_stranger workers (steps_in input parts))
+
+-- what a refusal says of them; want of memory says nothing
+abbrev pub RefusesSteps : List ℕ → ℕ → StepsRefused → Type 0
+RefusesSteps input workers (stepping.Word n) = SaysSteps input workers (Err n)
+RefusesSteps input workers stepping.NoMemory = Unit {0}

@@ -5,7 +5,7 @@ ghost use Rattle.word_store.specs.Memory.{Memory};
 ghost use Rattle.nest_lex.specs.Parts.{IsParts};
 ghost use Rattle.nest_lex.specs.Text.{AreTokens, AreWellNamed, IsFault};
 ghost use Rattle.nest_input.specs.declared.refused.Refusal.{Refusal};
-ghost use Rattle.nest_input.specs.Input.{IsNest, SaysNest, SaysWords, Tells, token_refusal, spot_at, nest_in};
+ghost use Rattle.nest_input.specs.Input.{IsNest, SaysNest, SaysWords, SaysSteps, Tells, token_refusal, spot_at, nest_in};
 
 use crate::refused::{InputRefused, Refusal};
 use nest_check::{CheckRefused, Checked, check};
@@ -85,8 +85,9 @@ pub fn read_nest(alloc: Global, input: &[u8]) -> Result<Checked, InputRefused>
     nest_of(alloc, nest_text(input, &parts))
 }
 
-/// An input says one thing: of its nest, and of the words of a program.
+/// An input says one thing: of its nest, of the words of a program, and of the steps of so many workers.
 pub fn one_saying()
     ensures nest { (input : List ℕ) (said other : Result Program Refusal) → SaysNest input said → SaysNest input other → said ≡ other }
     ensures words { (input : List ℕ) (program : Program) (said other : Result Memory Refusal) → SaysWords input program said → SaysWords input program other → said ≡ other }
+    ensures steps { (input : List ℕ) (workers : ℕ) (said other : Result (List ℕ) ℕ) → SaysSteps input workers said → SaysSteps input workers other → said ≡ other }
 {}

@@ -8,9 +8,12 @@ use Rattle.progress_board.specs.declared.options.Engine.TheVariants.{Domore}
 use Rattle.progress_board.specs.declared.facts.Facts.{Facts}
 use Rattle.progress_board.specs.Options.{IsInRange}
 use Rattle.progress_board.specs.Actors.{actors_of}
-use Rattle.progress_board.specs.Rotation.{rotation}
+use Rattle.progress_board.specs.Rotation.{taken, rotation}
+use Rattle.lone_crew.specs.declared.refused.StepRefused.{StepRefused}
+use Rattle.lone_crew.specs.declared.refused.StepRefused.TheVariants.{Step, NoMemory}
 use Rattle.domore_core.specs.Engine as domore
 use Rattle.domore_core.specs.Theorems.{facts_due}
+use Rattle.nest_runtime.specs.Ran.{IsNoStep}
 
 -- A machine opened on the job and the options, the steps are a complete history of it, and the facts are those of that
 -- history.
@@ -32,6 +35,30 @@ IsRotated job options schedule history facts (by_domore can allowed engine run) 
 pub record RunsAlone (job : Nest) (options : Options) (schedule history : List ℕ) (facts : Facts) : Type 0 where
   pub runs : RunsJob job options history facts
   pub rotated : IsRotated job options schedule history facts runs
+
+-- each entry of a schedule was enabled in its turn
+abbrev pub AreEnabled : (job : Nest) (options : Options) (schedule history : List ℕ) (facts : Facts) → RunsJob job options history facts → Type 0
+AreEnabled job options schedule history facts (by_domore can allowed engine run) = taken domore.step run.start schedule ≡ schedule
+
+-- a run by given steps, all of them, and then by the rotation
+pub record RunsStrict (job : Nest) (options : Options) (steps history : List ℕ) (facts : Facts) : Type 0 where
+  pub alone : RunsAlone job options steps history facts
+  pub enabled : AreEnabled job options steps history facts alone.runs
+
+-- A machine opened on the job and the options has no such step in its turn.
+pub record IsNoStepOf {S : Type 0} (opens : Nest → Options → S → Type 0) (step : S → ℕ → Option S) (job : Nest) (options : Options) (steps : List ℕ) (n : ℕ) : Type 0 where
+  pub start : S
+  pub opened : opens job options start
+  pub no_step : IsNoStep step start steps n
+
+-- so it is with the engine of the options: it refuses step n, from 0, of given steps, and no step before
+pub data RefusesStep (job : Nest) (options : Options) (steps : List ℕ) (n : ℕ) : Type 0 where
+  of_domore : CanRun job → IsInRange options → options.engine ≡ Domore → IsNoStepOf domore.Opens domore.step job options steps n → RefusesStep job options steps n
+
+-- what a refusal says of given steps; want of memory says nothing of them
+abbrev pub RefusesSteps : Nest → Options → List ℕ → StepRefused → Type 0
+RefusesSteps job options steps (Step n) = RefusesStep job options steps n
+RefusesSteps job options steps NoMemory = Unit {0}
 
 -- The facts that are due of a job that doesn't trap: they speak of no history.
 abbrev pub due : Nest → Options → Facts

@@ -9,7 +9,7 @@ mod ran;
 mod runs;
 mod threads;
 
-pub use jobs::{facts_are_due, run_alone};
+pub use jobs::{facts_are_due, run_alone, run_strict};
 pub use ran::Ran;
 pub use runs::{drive_alone, drive_crew, drive_strict};
 pub use threads::run_job;

@@ -1,0 +1,16 @@
+use Rattle.std.proofs.Common.{◌≡◌, Err, IfOk, subst}
+use Rattle.nest_input.specs.declared.refused.Refusal.{Refusal}
+use Rattle.nest_input.specs.declared.refused.InputRefused.{InputRefused}
+use Rattle.nest_input.specs.Input.{SaysWords, Tells}
+use Rattle.cross_top.specs.Answers.{AnswersReplay, refused_answer}
+use Rattle.cross_top.proofs.Replies.{words_answered, fault_answered}
+use Rattle.cross_top.proofs.answers.replay_of.Goals as goal
+
+pub returns-in-Ok : goal.returns-in-Ok
+returns-in-Ok c = words_answered (AnswersReplay c.args.call.now c.args.input.now) c.args.input.now c.args.checked c.in-Ok.words _ c.new.ensures c.in-Ok.ensures.said c.replay.result c.replay.ensures
+
+pub returns-in-Err-Refused : goal.returns-in-Err-Refused
+returns-in-Err-Refused c =
+    let says = subst (λ (e : InputRefused). Tells (SaysWords c.args.input.now c.args.checked) (Err e)) c.in-Err-Refused.field-0-is c.in-Err-Refused.ensures.said in
+    let told = subst (λ (why : Refusal). IfOk c.refused.result (λ reply. reply ≡ refused_answer why)) c.in-Err-Refused.why-is c.refused.ensures in
+    fault_answered (AnswersReplay c.args.call.now c.args.input.now) c.args.input.now c.args.checked c.in-Err-Refused.why says c.refused.result told
