@@ -59,7 +59,7 @@ module _ (ends : HistoriesEndAsJob) where
     all_run_alone (Err e) run schedule engine rotated = tt
     all_run_alone (Ok ran) run schedule engine rotated = runs_alone job options can allowed start opened ran.outcome ran.facts ran.history.items run schedule engine rotated
 
-    pub all_run_job : (r : Result Ran NoMemory) → IfOk r (λ ran. IsRun step is_finished ending_of words_of facts_of start ran.outcome ran.facts ran.history.items) → options.engine ≡ Domore → IfOk r (λ ran. RunsJob job options ran.history.items ran.facts)
+    pub all_run_job : {E : Type 0} (r : Result Ran E) → IfOk r (λ ran. IsRun step is_finished ending_of words_of facts_of start ran.outcome ran.facts ran.history.items) → options.engine ≡ Domore → IfOk r (λ ran. RunsJob job options ran.history.items ran.facts)
     all_run_job (Err e) run engine = tt
     all_run_job (Ok ran) run engine = by_domore can allowed engine (record { start = start; opened = opened; complete = run.complete; facts_are = run.facts_are })
 
