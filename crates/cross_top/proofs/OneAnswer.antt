@@ -18,7 +18,7 @@ use Rattle.cross_words.specs.declared.call.Action.{Action}
 use Rattle.cross_words.specs.declared.call.Action.TheVariants.{Plain, Check, Deps, Alone, Replay, Profile, Gen, Big, Run}
 use Rattle.cross_words.specs.declared.call.Call.{Call}
 use Rattle.cross_top.proofs.Textual.{ended_same}
-use Rattle.cross_top.specs.Answers.{Answer, ended, told, told_steps, done_text, job_of, step_refused, AnswersRun, AnswersPlain, AnswersAlone, AnswersSteps, ran, not_enabled, AnswersActors, AnswersReplay, RefuseSameStep, AnswersWords, AnswersData, AnswersProgram, AnswersNest, AnswersInput, too_long, a_text, AnswersCall, is_gen, OneAnswer}
+use Rattle.cross_top.specs.Answers.{Answer, ended, told, told_steps, done_text, job_of, AnswersRun, AnswersPlain, AnswersAlone, AnswersSteps, ran, not_enabled, AnswersActors, AnswersReplay, RefuseSameStep, AnswersWords, AnswersData, AnswersProgram, AnswersNest, AnswersInput, too_long, a_text, AnswersCall, is_gen, OneAnswer}
 
 -- a run of a call tells its steps
 steps_told : (call : Call) (program : Program) (facts : Facts) (history : List ℕ) (o : Outcome) → (told call program facts history o).history ≡ told_steps call history

@@ -17,7 +17,7 @@ use Rattle.nest_mean.specs.declared.outcomes.Outcome.{Outcome}
 use Rattle.nest_mean.specs.declared.outcomes.Outcome.TheVariants as outcomes
 use Rattle.nest_mean.specs.Outcomes.{outcome}
 use Rattle.cross_top.specs.Answers.{Answer, refusal, refused_answer, word_refused, step_refused, printed, told, job_of, plain_answer, check_answer, deps_answer, gen_answer, is_gen}
-use Rattle.cross_top.specs.Answers.{AnswersRun, AnswersPlain, AnswersAlone, AnswersSteps, ran, not_enabled, AnswersActors, AnswersReplay, AnswersWords, AnswersProgram, AnswersNest, AnswersInput, too_long, a_text, AnswersCall}
+use Rattle.cross_top.specs.Answers.{AnswersRun, AnswersPlain, AnswersAlone, ran, not_enabled, AnswersActors, AnswersReplay, AnswersWords, AnswersProgram, AnswersNest, AnswersInput, too_long, a_text, AnswersCall}
 use Rattle.cross_top.specs.Words.{AskToRead}
 use Rattle.cross_top.specs.Ends.{SourceChange, IsDue, IsDueTo, Ends}
 
