@@ -1,70 +1,12 @@
-use crate::jobs::{array, job_of, options};
-use crate::nests::{BEYOND, FIRST, FIRST_ON_WORDS};
+use crate::jobs::{job_of, options};
+use crate::nests::FIRST;
 use domore_core::Domore;
 use nest_input::InputRefused;
-use nest_mean::Outcome;
-use nest_runtime::{Ran, run_alone};
-use nest_syntax::{Cause, Line, Place};
 use progress_board::{Ask, Given, Machine, Row, Work};
 use std::alloc::Global;
 use std::process::Abort;
 use std::test::Fail;
 use task_frame::{Worked, work};
-
-fn run(
-    rt: &impl Abort,
-    alloc: Global,
-    input: &str,
-    workers: u8,
-    queue: u16,
-    schedule: &[u8],
-) -> Result<Ran, InputRefused> {
-    let job = job_of(rt, alloc, input)?;
-    Ok(run_alone(alloc, job, options(rt, workers, queue), schedule)?)
-}
-
-// How many waits a run handed out, those that cross among them.
-fn told(ran: &Ran) -> (u64, u64) {
-    (ran.facts.waits, ran.facts.crossing)
-}
-
-// Workers, the room of a queue, and what is told, found by hand: an iteration waits for each other worker's last one that
-// has its word or the word that it reads.
-#[test]
-fn an_engine_ends_as_textual_order(rt: HostRuntime) -> Result<(), Fail> {
-    for (input, workers, queue, waits, words) in [
-        (FIRST, 1, 1, (0, 0), [13, 14, 26, 26].as_slice()),
-        (FIRST, 2, 16, (6, 2), &[13, 14, 26, 26]),
-        (FIRST, 8, 1, (12, 8), &[13, 14, 26, 26]),
-        (FIRST_ON_WORDS, 2, 16, (6, 2), &[17, 17, 29, 30]),
-    ] {
-        let ran = run(&rt, rt.alloc(), input, workers, queue, &[])?;
-        assert_eq!(rt; told(&ran), waits, "{workers} workers");
-        let Outcome::Done(last) = &ran.outcome else {
-            panic!(rt; "{workers} workers");
-        };
-        assert_eq!(rt; array(&rt, last, 0), words, "{workers} workers");
-    }
-    Ok(())
-}
-
-// Under the schedule the last iteration traps first and the first one last: the trap that textual order meets is told.
-#[test]
-fn the_least_trap_is_told(rt: HostRuntime) -> Result<(), Fail> {
-    let late: &[u8] = &[2, 2, 2, 2, 2, 2, 2, 1, 1, 1, 1, 1, 0, 0];
-    let ran = run(&rt, rt.alloc(), BEYOND, 2, 16, late)?;
-    let Outcome::Trapped(place) = ran.outcome else {
-        panic!(rt; "no trap");
-    };
-    let wanted = Place {
-        cause: Cause::Index,
-        line: Line(4),
-        number: 0,
-        by_scheduler: false,
-    };
-    assert!(rt; place == wanted);
-    Ok(())
-}
 
 fn open(rt: &impl Abort, alloc: Global, input: &str) -> Result<Domore, InputRefused> {
     let job = job_of(rt, alloc, input)?;

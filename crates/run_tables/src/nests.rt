@@ -22,26 +22,6 @@ for (long t = 0; t < 2; t++) {
 }
 ";
 
-/// The same with other opening words.
-pub const FIRST_ON_WORDS: &str = "long a[4];
-for (long t = 0; t < 2; t++) {
-  for (long i = 0; i < 4; i++) {
-    a[i] = a[3 - i] + t * 10 + i;
-  }
-}
-data
-a 1 2 3 4
-";
-
-/// Its first and its last iteration write outside the array.
-pub const BEYOND: &str = "long a[2];
-for (long t = 0; t < 1; t++) {
-  for (long i = 0; i < 4; i++) {
-    a[2 - i] = 1;
-  }
-}
-";
-
 /// From its second iteration on the second read is outside the array.
 pub const SHIFTED: &str = "long a[4];
 for (long t = 0; t < 2; t++) {
