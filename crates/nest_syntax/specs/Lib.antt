@@ -10,5 +10,4 @@ pub mod Shape
 pub mod Course
 pub mod Outcome
 pub mod Named
-pub mod FirstForm
 pub mod Inside
