@@ -15,7 +15,7 @@ pub(crate) const MOST_ARRAYS: usize = 1_048_576;
 /// An exact kind holds the words that it noted, any other kind of each array all places from the least noted to the
 /// greatest, apart for those read and those written. The law of a kind speaks of what it noted since it was made or
 /// cleared, newest first.
-pub trait Signature: Send + Drop {
+pub trait Signature: Drop {
     /// Whether it holds the very words that it noted.
     const EXACT: bool;
 

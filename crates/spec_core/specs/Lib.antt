@@ -1,6 +1,15 @@
+pub mod Signatures
 pub mod Moves
 pub mod Reports
+pub mod Tallies
+pub mod Hands
+pub mod Shared
+pub mod Stages
+pub mod Blocks
+pub mod Passed
 pub mod Engine
+pub mod Tables
+pub mod Kept
 pub mod Names
 pub mod Below
 pub mod Laws

@@ -10,14 +10,14 @@ use std::slice::from_ref;
 
 /// A body of a program: the loop that invokes it, where one does, and its statements.
 #[derive(Clone, Copy, Debug)]
-pub(crate) struct Body<'a> {
+pub struct Body<'a> {
     pub line: Line,
     pub header: Option<&'a Loop>,
     pub stmts: &'a [Stmt],
 }
 
 /// The bodies of a program in textual order.
-pub(crate) fn bodies_of<'a>(alloc: Global, program: &'a Program) -> Result<Vec<Body<'a>>, NoMemory>
+pub fn bodies_of<'a>(alloc: Global, program: &'a Program) -> Result<Vec<Body<'a>>, NoMemory>
     ensures { IfOk result (λ found. map told found.items ≡ invoked_by program.now) }
 {
     let mut found = Vec::new(alloc);

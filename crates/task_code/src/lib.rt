@@ -14,6 +14,7 @@ mod layout;
 mod locals;
 mod statements;
 
+pub use bodies::{Body, bodies_of};
 pub use code::{Entry, Instruction, TaskCode};
 pub use compiler::compile;
 pub use laws::{entries_are_of_bodies, entries_count, turns_are_of_bodies, variables_are_locals};
