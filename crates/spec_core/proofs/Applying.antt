@@ -1,5 +1,5 @@
 -- What the method of each row needs, and that it leaves the state behind the move.
-use Rattle.std.proofs.Common.{◌≡◌, ℕ, suc, ◌+◌, ◌<◌, ◌≤◌, ◌⊎◌, ℤ, Bool, true, false, if◌then◌else◌, Option, Some, None, IsSome, List, [], ◌∷◌, length, slice_get, refl, sym, ap, ◌∙◌, subst, inl, inr, arith}
+use Rattle.std.proofs.Common.{◌≡◌, ℕ, suc, ◌<◌, ◌≤◌, ◌⊎◌, ℤ, Bool, true, false, if◌then◌else◌, Option, Some, None, List, length, slice_get, refl, sym, ap, ◌∙◌, subst, inl, inr, arith}
 use Rattle.std.specs.Option.{option_map}
 use Rattle.std.specs.List.{list_any}
 use Rattle.nest_syntax.specs.Arrays.{Array, arrays_of}
@@ -21,7 +21,7 @@ use Rattle.sched_cursor.specs.Events.{event_of, event_when, kind_found, purpose_
 use Rattle.spec_machine.specs.Invocations.{Event, Scalar, Drain, Invoke, End}
 use Rattle.spec_machine.specs.Facts.{Pair, Abort}
 use Rattle.spec_machine.specs.Machine.{Setup, Seat, Hand, Idle, Empty, Running, Stopped, Move, DoScalar, DoDrain, DoOpen, DoClose, DoCommit, DoRestore, DoConclude, DoBegin, DoRead, DoWrite, DoGo, DoNext, DoFinish, DoFail, DoTrap, DoLetGo, DoStop, DoCheck, DoAbort, seat_at, done_at, first_hand, due, overlap_of, to, move_of, scalar_after, worker_after, state_after, step}
-use Rattle.spec_machine.specs.Table.{IsFree, IsGoing, IsWorking, IsAt, Enabled}
+use Rattle.spec_machine.specs.Table.{IsWorking, IsAt, Enabled}
 use Rattle.spec_machine.proofs.Guards.{enabled}
 use Rattle.spec_setup.specs.Signs.{Signs}
 use Rattle.spec_setup.specs.Setups.{Invoked, by_invocations, invoking, invocation_at}
@@ -81,7 +81,7 @@ pub calm_is : (o : Option RollCause) → option_map abort_in o ≡ None → o �
 calm_is None is = refl
 calm_is (Some cause) is = absurd (let no_one : Some (abort_in cause) ≡ None = is in cc)
 
-finish_is : (h : Hand Piece) (own : OwnMove) → finish_told h ≡ Turn own → turn.Finish ≡ own
+pub finish_is : (h : Hand Piece) (own : OwnMove) → finish_told h ≡ Turn own → turn.Finish ≡ own
 finish_is Idle own is = cc
 finish_is Empty own is = cc
 finish_is (Running k p) own is = absurd (cc)

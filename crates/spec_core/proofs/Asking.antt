@@ -1,6 +1,6 @@
 -- What an actor is asked, and what is made of it.
-use Rattle.std.proofs.Common.{◌≡◌, ℕ, zero, suc, ◌+◌, ◌<◌, ◌≤◌, Bool, true, false, nat_lt, if◌then◌else◌, Option, Some, None, List, length, inl, inr, refl, sym, ap, ◌∙◌, subst, arith}
-use Rattle.std.specs.Option.{option_map, option_map_or}
+use Rattle.std.proofs.Common.{◌≡◌, ℕ, zero, suc, ◌<◌, ◌≤◌, Bool, true, false, nat_lt, if◌then◌else◌, Option, Some, None, length, inl, inr, refl, sym, ap, ◌∙◌, subst}
+use Rattle.std.specs.Option.{option_map}
 use Rattle.std.proofs.lemmas.Bool.{cond-true, cond-false, lt-ltb}
 use Rattle.nest_syntax.specs.declared.place.Place.{Place}
 use Rattle.settle_law.specs.Tasks.{Stop, Loads, Stores, Goes, Finishes, Traps}
@@ -21,7 +21,7 @@ use Rattle.spec_core.specs.declared.moves.Move.TheVariants.{Turn, Hop}
 use Rattle.spec_core.specs.declared.moves.Turn.{Turn as OwnMove}
 use Rattle.spec_core.specs.declared.moves.Turn.TheVariants as turn
 use Rattle.spec_core.specs.Moves.{told, row_of_turn}
-use Rattle.spec_core.specs.Engine.{Engine, Stand, Move, setup_in, hand_at, has_ended, told_in, told_of, answer, asked, work_of_move}
+use Rattle.spec_core.specs.Engine.{Engine, Stand, Move, hand_at, has_ended, told_in, told_of, answer, asked, work_of_move}
 
 -- a worker that hops stands at a piece, and its move is that of the piece's stop
 module _ {G : Type 0} (m : Setup Invoked Cursor Piece G) (s : Stand G) (u : ℕ) where
@@ -52,7 +52,7 @@ module _ {G : Type 0} (m : Setup Invoked Cursor Piece G) (s : Stand G) (u : ℕ)
   held (DoWrite k w value next) is hop = stands k _ is
   held (DoGo k next) is hop = stands k _ is
   held (DoNext k piece) is hop = stands is.0 _ is.1
-  held DoFinish (inl is) hop = absurd (let no : Turn turn.Finish ≡ Hop = subst (λ (h : Hand Piece). told h DoFinish ≡ Hop) is.0.holds hop in cc)
+  held DoFinish (inl is) hop = absurd (let no : Turn turn.Finish ≡ Hop = subst (λ (h : Hand Piece). told {B = Invoked} {C = Cursor} h DoFinish ≡ Hop) is.0.holds hop in cc)
   held DoFinish (inr is) hop = stands is.0 _ is.1
   held DoFail is hop = stands is.0 _ is.3
   held (DoTrap k cause line) is hop = stands k _ is.0

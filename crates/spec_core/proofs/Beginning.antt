@@ -1,25 +1,21 @@
 -- The next task of a worker begins.
-use Rattle.std.proofs.Common.{◌≡◌, ◌≢◌, ℕ, zero, suc, ◌+◌, ◌*◌, ◌<◌, ◌≤◌, ◌⊎◌, Bool, true, false, ◌&&◌, not, nat_le, Option, Some, None, List, [], ◌∷◌, ◌++◌, map, take, length, slice_set, slice_index, slice_index_or, get_or, refl, sym, ap, ◌∙◌, subst, inl, inr, ⊎_elim, arith, length-set}
-use Rattle.std.proofs.lemmas.Bool.{or_left, cases_Bool, true≢false, cases_order}
+use Rattle.std.proofs.Common.{◌≡◌, ℕ, zero, suc, ◌+◌, ◌*◌, ◌<◌, ◌≤◌, ◌⊎◌, Bool, true, false, ◌&&◌, not, nat_le, Option, Some, None, List, [], ◌∷◌, ◌++◌, map, take, length, slice_set, slice_index, slice_index_or, get_or, refl, sym, ap, ◌∙◌, subst, inl, inr, ⊎_elim, arith, length-set}
+use Rattle.std.proofs.lemmas.Bool.{or_left, cases_Bool, cases_order}
 use Rattle.std.proofs.lemmas.List.{get_or-set_same, get_or-set_other}
 use Rattle.std.proofs.Math.Seq.{take-suc-set}
-use Rattle.std.specs.List.{range_with_len, filter}
+use Rattle.std.specs.List.{range_with_len}
 use Rattle.std.specs.Vec.{with_item}
-use Rattle.nest_syntax.specs.Among.{Each}
 use Rattle.task_frame.specs.declared.piece.Piece.{Piece}
 use Rattle.epoch_plan.specs.declared.tasks.Seen.{Seen}
-use Rattle.sched_cursor.specs.Cursor.{Cursor}
-use Rattle.spec_checker.specs.Order.{Pair as Names, is_before, is_pair_before, is_passed as is_behind}
+use Rattle.spec_checker.specs.Order.{Pair as Names, is_before, is_passed as is_behind}
 use Rattle.spec_checker.specs.Due.{IsReached}
 use Rattle.spec_machine.specs.Facts.{Pair}
-use Rattle.spec_machine.specs.Machine.{Setup, Seat, Hand, DoBegin, seat_at, seat_after, dones, pairs, worker_after}
+use Rattle.spec_machine.specs.Machine.{Seat, Hand, DoBegin, seat_at, seat_after, dones, pairs, worker_after}
 use Rattle.spec_machine.specs.Table.{In}
 use Rattle.spec_machine.proofs.Lists.{IsPair, pairs_in}
 use Rattle.spec_setup.specs.Signs.{Signs}
-use Rattle.spec_setup.specs.Setups.{Invoked}
 use Rattle.spec_core.specs.declared.plan.Plan.{Plan}
 use Rattle.spec_core.specs.declared.table.Table.{Table}
-use Rattle.spec_core.specs.Engine.{Stand}
 use Rattle.spec_core.specs.Hands.{Bench, bench_at, seen_at, seen_by, seat_in, seats_from, seats_of}
 use Rattle.spec_core.specs.Passed.{names_of, unordered_in, passed_in}
 use Rattle.spec_core.specs.Tables.{state_of, setup_by, sizes_by, IsPlan, IsBenchBy, IsSound}

@@ -18,7 +18,6 @@ use Rattle.sched_cursor.specs.Turning.{Turning, has_turn}
 use Rattle.sched_cursor.specs.Steps.{turning_of, changed, purpose_of}
 use Rattle.sched_cursor.specs.Cursor.{Cursor}
 use Rattle.sched_cursor.specs.Events.{stepped, after_found, at_line, after_at, after_event, purpose_found, purpose_at, is_inside, placed, as_answer}
-use Rattle.spec_machine.specs.Facts.{Facts, computed}
 use Rattle.spec_core.specs.Tables.{IsFresh}
 
 abbrev pub header_of : Bool → Purpose

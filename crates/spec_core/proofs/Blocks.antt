@@ -1,5 +1,5 @@
 -- The tasks of open epochs, as they are planned and as the abstract machine has them.
-use Rattle.std.proofs.Common.{◌≡◌, ℕ, zero, suc, ◌+◌, ◌-◌, ◌<◌, ◌≤◌, Bool, true, false, ◌&&◌, nat_lt, if◌then◌else◌, Option, Some, None, List, [], ◌∷◌, length, slice_index_or, refl, sym, ap, ◌∙◌, subst, arith}
+use Rattle.std.proofs.Common.{◌≡◌, ℕ, zero, suc, ◌+◌, ◌-◌, ◌<◌, Bool, true, false, ◌&&◌, nat_lt, if◌then◌else◌, Some, None, List, [], ◌∷◌, length, slice_index_or, refl, sym, ap, ◌∙◌, arith}
 use Rattle.std.proofs.lemmas.Bool.{ltb-true}
 use Rattle.nest_syntax.specs.Among.{Each}
 use Rattle.task_code.specs.Code.{Code}
@@ -7,7 +7,7 @@ use Rattle.task_frame.specs.declared.piece.Piece.{Piece}
 use Rattle.nest_setup.specs.Pieces.{opening_piece}
 use Rattle.epoch_plan.specs.declared.blocks.Epoch.{Epoch as Planned}
 use Rattle.sched_cursor.specs.Cursor.{Cursor}
-use Rattle.spec_machine.specs.Machine.{Setup, Epoch, Hand, Empty, Running, share, epoch_at, from, to, piece_at, first_hand, has_below}
+use Rattle.spec_machine.specs.Machine.{Setup, Epoch, Empty, Running, share, from, to, piece_at, first_hand, has_below}
 use Rattle.spec_setup.specs.Setups.{Invoked, handed, is_do_all}
 use Rattle.spec_setup.specs.Signs.{Signs}
 use Rattle.spec_core.specs.declared.plan.Plan.{Plan}

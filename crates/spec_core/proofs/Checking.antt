@@ -1,5 +1,5 @@
 -- What the checker answers is what the machine does.
-use Rattle.std.proofs.Common.{◌≡◌, ◌↔◌, ℕ, suc, ◌+◌, ◌*◌, ◌<◌, ◌≤◌, Bool, IsTrue, true, false, not, ◌&&◌, if◌then◌else◌, MatchOption, Option, Some, None, List, [], ◌∷◌, ◌++◌, length, map, take, slice_index, get_or, refl, sym, ap, ◌∙◌, subst, arith}
+use Rattle.std.proofs.Common.{◌≡◌, ◌↔◌, ℕ, ◌+◌, ◌*◌, ◌<◌, ◌≤◌, Bool, IsTrue, true, false, not, ◌&&◌, if◌then◌else◌, MatchOption, Option, Some, None, List, [], ◌∷◌, ◌++◌, length, map, take, slice_index, get_or, refl, sym, ap, ◌∙◌, subst, arith}
 use Rattle.std.proofs.Math.Nat.{mul-le-mul_left}
 use Rattle.std.proofs.lemmas.List.{get_or-take, get_or_default, get_or_read_under}
 use Rattle.std.proofs.lemmas.Bool.{true≢false}
@@ -8,21 +8,19 @@ use Rattle.std.specs.List.{find, list_any}
 use Rattle.nest_syntax.specs.Among.{Each}
 use Rattle.task_frame.specs.declared.piece.Piece.{Piece}
 use Rattle.epoch_plan.specs.declared.tasks.Seen.{Seen}
-use Rattle.sched_cursor.specs.Cursor.{Cursor}
 use Rattle.spec_checker.specs.Order.{Pair as Names, is_pair_before, is_passed as is_behind}
 use Rattle.spec_checker.specs.Due.{IsReached, IsDue, NoneIsOpen, AllPassed, HasEntries}
 use Rattle.spec_machine.specs.Facts.{Task, Pair}
-use Rattle.spec_machine.specs.Machine.{Setup, Seat, seat_at, done_at, sign_at, is_open, pairs, finished_up_to, due, due_if}
+use Rattle.spec_machine.specs.Machine.{Seat, done_at, sign_at, is_open, pairs, finished_up_to, due, due_if}
 use Rattle.spec_machine.proofs.Lists.{IsPair, pairs_in}
 use Rattle.spec_machine.specs.Table.{In}
 use Rattle.spec_machine.proofs.Due.{IsDue as IsDuePair, is_due, up_to, IsUpTo}
 use Rattle.spec_setup.specs.Signs.{Signs}
-use Rattle.spec_setup.specs.Setups.{Invoked}
 use Rattle.spec_core.specs.declared.plan.Plan.{Plan}
 use Rattle.spec_core.specs.declared.table.Table.{Table}
-use Rattle.spec_core.specs.Hands.{Bench, bench_at, idle_bench, seats_of}
+use Rattle.spec_core.specs.Hands.{Bench, bench_at, idle_bench}
 use Rattle.spec_core.specs.Passed.{names_of, pair_in, unordered_in, passed_in}
-use Rattle.spec_core.specs.Tables.{state_of, setup_by, sizes_by, IsPlan, IsBenchBy, IsSound, GoesOn}
+use Rattle.spec_core.specs.Tables.{state_of, setup_by, sizes_by, IsBenchBy, IsSound, GoesOn}
 use Rattle.spec_core.proofs.Seating.{many, seats_there}
 use Rattle.spec_core.proofs.Blocks.{many_epochs}
 use Rattle.spec_core.proofs.Placing.{each_of}

@@ -1,7 +1,7 @@
 -- The move of a worker by what it holds, and the scheduler's by its event, as they are told.
-use Rattle.std.proofs.Common.{◌≡◌, ℕ, zero, suc, ◌+◌, ◌<◌, Bool, true, false, ◌&&◌, not, if◌then◌else◌, nat_lt, nat_le, ◌==◌, Option, Some, None, List, [], ◌∷◌, length, map, refl, sym, ap, ◌∙◌, subst}
+use Rattle.std.proofs.Common.{◌≡◌, ℕ, zero, suc, ◌+◌, Bool, true, false, ◌&&◌, if◌then◌else◌, nat_lt, nat_le, Option, Some, None, List, [], ◌∷◌, length, refl, ap, ◌∙◌}
 use Rattle.std.specs.Option.{option_map}
-use Rattle.std.specs.List.{list_all, list_any}
+use Rattle.std.specs.List.{list_all}
 use Rattle.nest_syntax.specs.declared.place.Place.{Place}
 use Rattle.settle_law.specs.Tasks.{Stop, Loads, Stores, Goes, Finishes, Traps}
 use Rattle.task_frame.specs.declared.piece.Piece.{Piece}
@@ -9,11 +9,9 @@ use Rattle.epoch_plan.specs.declared.blocks.Epoch.{Epoch as Planned}
 use Rattle.epoch_plan.specs.declared.tasks.Seen.{Seen}
 use Rattle.sched_cursor.specs.Cursor.{Cursor}
 use Rattle.spec_machine.specs.Invocations.{Event, End, Scalar, Drain, Invoke}
-use Rattle.spec_machine.specs.Facts.{Pair, Abort}
 use Rattle.spec_machine.specs.Machine.{Setup, Seat, Epoch, Hand, Idle, Empty, Running, Stopped, to}
 use Rattle.spec_machine.specs.Machine as machine
 use Rattle.spec_setup.specs.Setups.{Invoked}
-use Rattle.spec_core.specs.declared.moves.Move.{Move as Told}
 use Rattle.spec_core.specs.declared.moves.Move.TheVariants.{Turn, Hop}
 use Rattle.spec_core.specs.declared.moves.Turn.{Turn as OwnMove}
 use Rattle.spec_core.specs.declared.moves.Turn.TheVariants as turn

@@ -9,9 +9,8 @@ use Rattle.spec_core.specs.Engine.{far_with}
 use Rattle.spec_core.specs.Passed.{unordered_in, passed_in}
 use Rattle.spec_core.proofs.Seating.{many}
 use Rattle.spec_core.proofs.Ordered.{filter_none}
-use Rattle.task_frame.specs.declared.piece.Piece.{Piece}
 use Rattle.epoch_plan.specs.declared.tasks.Seen.{Seen}
-use Rattle.spec_machine.specs.Machine.{Seat, fresh_seat, pairs}
+use Rattle.spec_machine.specs.Machine.{fresh_seat, pairs}
 use Rattle.spec_core.specs.declared.plan.Plan.{Plan}
 use Rattle.spec_core.specs.declared.table.Table.{Table}
 use Rattle.spec_core.specs.Hands.{Bench, cleared, seats_from, seats_of}

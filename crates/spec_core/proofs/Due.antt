@@ -1,5 +1,5 @@
 -- What is passed and what is open, by the pair that was passed last.
-use Rattle.std.proofs.Common.{◌≡◌, ◌↔◌, ◌⊎◌, ℕ, zero, suc, ◌+◌, ◌*◌, ◌<◌, ◌≤◌, Bool, IsTrue, true, false, ◌&&◌, ◌||◌, not, ◌==◌, if◌then◌else◌, nat_le, nat_lt, MatchOption, Option, Some, None, List, [], ◌∷◌, ◌++◌, map, take, length, slice_index, slice_index_or, get_or, refl, sym, ap, ◌∙◌, subst, inl, inr, ⊎_elim, arith}
+use Rattle.std.proofs.Common.{◌≡◌, ◌↔◌, ◌⊎◌, ℕ, zero, suc, ◌+◌, ◌*◌, ◌<◌, ◌≤◌, Bool, IsTrue, true, false, ◌&&◌, ◌||◌, not, ◌==◌, if◌then◌else◌, nat_le, nat_lt, MatchOption, Option, Some, None, List, [], map, take, length, slice_index, slice_index_or, get_or, refl, sym, ap, ◌∙◌, subst, inl, inr, ⊎_elim, arith}
 use Rattle.std.proofs.lemmas.Bool.{and_from, and_parts, or_parts, or_cases, eq-eqb, eqb-true, ne_eqb, lt-ltb, le-ltb, ltb-true, ltb-false, cases_Bool, cases_order, true≢false, not-true}
 use Rattle.std.proofs.lemmas.List.{get_or-take}
 use Rattle.std.specs.Option.{option_map}
@@ -12,7 +12,7 @@ use Rattle.epoch_plan.specs.declared.tasks.Seen.{Seen}
 use Rattle.spec_checker.specs.Order.{Pair as Names, is_before, is_pair_before, is_passed as is_behind}
 use Rattle.spec_checker.specs.Due.{seen_by as seen_names, is_open as is_open_names, AreOf, IsReached, IsDue, NoneIsOpen, AllPassed}
 use Rattle.spec_machine.specs.Facts.{Task, Pair, same_task, same_pair}
-use Rattle.spec_machine.specs.Machine.{Seat, done_at, is_unordered, is_passed, is_open, pairs, finished_up_to, due_if}
+use Rattle.spec_machine.specs.Machine.{Seat, done_at, is_passed, is_open, pairs, finished_up_to, due_if}
 use Rattle.spec_machine.specs.Table.{In}
 use Rattle.spec_machine.proofs.Lists.{IsPair, in_pairs, pairs_in, none_in, none_each, find_some}
 use Rattle.spec_machine.proofs.Due.{IsUpTo, up_to, up_from}

@@ -1,13 +1,11 @@
 -- An invocation that was entered is opened as an epoch.
-use Rattle.std.proofs.Common.{◌≡◌, ℕ, zero, suc, ◌+◌, ◌-◌, ◌<◌, ◌≤◌, ◌^◌, ℤ, Bool, true, false, ◌&&◌, ◌||◌, ◌==◌, nat_lt, not, if◌then◌else◌, Option, Some, None, List, [], ◌∷◌, ◌++◌, map, length, slice_index, get_or, refl, sym, ap, ◌∙◌, subst, arith, length-append, append-nil}
+use Rattle.std.proofs.Common.{◌≡◌, ℕ, suc, ◌+◌, ◌<◌, ◌≤◌, ◌^◌, ℤ, Bool, true, false, ◌&&◌, ◌||◌, ◌==◌, nat_lt, not, Option, Some, None, List, [], ◌∷◌, ◌++◌, map, length, slice_index, get_or, refl, sym, ap, ◌∙◌, arith, length-append, append-nil}
 use Rattle.std.proofs.lemmas.Bool.{or_left, lt-ltb, le-ltb}
 use Rattle.std.proofs.lemmas.List.{get_or_default}
 use Rattle.std.proofs.lemmas.Grind.{flat_map-append}
 use Rattle.std.proofs.lemmas.List.Elements.{filter-append}
-use Rattle.std.specs.List.{filter, flat_map}
+use Rattle.std.specs.List.{filter}
 use Rattle.nest_syntax.specs.declared.names.TaskName.{TaskName}
-use Rattle.nest_syntax.specs.Among.{Each}
-use Rattle.epoch_plan.specs.declared.blocks.Epoch.{Epoch as Planned}
 use Rattle.epoch_plan.specs.declared.tasks.Seen.{Seen}
 use Rattle.sched_cursor.specs.declared.event.Here.{Here}
 use Rattle.sched_cursor.specs.declared.node.At.{At}
@@ -17,18 +15,17 @@ use Rattle.sched_cursor.specs.Events.{here_at, is_inside, behind_invocation}
 use Rattle.sched_cursor.specs.Turning.{Reaches}
 use Rattle.sched_cursor.specs.Laws.{IsCursorOf}
 use Rattle.sched_cursor.proofs.Cursors.{cursors_stay}
-use Rattle.spec_checker.specs.Order.{Pair as Names, is_before, is_pair_before, is_passed as is_behind}
+use Rattle.spec_checker.specs.Order.{Pair as Names, is_before, is_passed as is_behind}
 use Rattle.spec_checker.specs.Due.{IsReached}
 use Rattle.spec_machine.specs.Facts.{Pair, opened}
-use Rattle.spec_machine.specs.Machine.{Setup, Epoch, below, pairs_late, pairs, DoOpen, state_after}
-use Rattle.spec_machine.specs.Table.{In}
+use Rattle.spec_machine.specs.Machine.{below, pairs_late, pairs, DoOpen, state_after}
 use Rattle.spec_setup.specs.Signs.{Signs}
-use Rattle.spec_setup.specs.Setups.{Invoked, is_do_all}
+use Rattle.spec_setup.specs.Setups.{Invoked}
 use Rattle.spec_core.specs.declared.plan.Plan.{Plan}
 use Rattle.spec_core.specs.declared.desk.Desk.{Desk}
 use Rattle.spec_core.specs.declared.table.Table.{Table}
-use Rattle.spec_core.specs.Hands.{Bench, bench_at}
-use Rattle.spec_core.specs.Blocks.{invocation_in, epochs_in}
+use Rattle.spec_core.specs.Hands.{Bench}
+use Rattle.spec_core.specs.Blocks.{epochs_in}
 use Rattle.spec_core.specs.Passed.{names_of, unordered_in, passed_in}
 use Rattle.spec_core.specs.Engine.{Stand}
 use Rattle.spec_core.specs.Tables.{state_of, setup_by, sizes_by, IsPlan, IsEpochBy, IsFresh, IsSound, IsOpenedBy, GoesOn}

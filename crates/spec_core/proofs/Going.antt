@@ -13,7 +13,7 @@ use Rattle.spec_core.specs.declared.table.Table.{Table}
 use Rattle.spec_core.specs.Engine.{Engine, Stand, setup_in, far_of, step, IsLegalEngine}
 use Rattle.spec_core.specs.Tables.{state_of, setup_by, IsSound}
 use Rattle.spec_core.specs.Kept.{engine_of, IsKept}
-use Rattle.spec_core.specs.Laws.{CameBy, came_by, prepared}
+use Rattle.spec_core.specs.Laws.{came_by, prepared}
 
 module _ {G : Type 0} (signs : Signs G) where
   abbrev Goes : Engine G → Type 0

@@ -1,13 +1,12 @@
 -- An access of a worker, as it is noted.
-use Rattle.std.proofs.Common.{◌≡◌, ℕ, ◌<◌, ◌≤◌, ℤ, Bool, true, false, if◌then◌else◌, Some, List, [], ◌∷◌, length, take, slice_set, slice_index, get_or, refl, sym, ap, ◌∙◌, subst, arith, length-set}
+use Rattle.std.proofs.Common.{◌≡◌, ℕ, ◌<◌, ◌≤◌, ℤ, Bool, true, false, if◌then◌else◌, List, [], ◌∷◌, length, take, slice_set, slice_index, get_or, refl, sym, ap, ◌∙◌, subst, arith, length-set}
 use Rattle.std.proofs.lemmas.List.{length-map}
 use Rattle.std.proofs.lemmas.List.{get_or-take, get_or_default}
 use Rattle.std.proofs.Math.Seq.{take-set-lt}
 use Rattle.std.specs.Option.{option_map_or}
-use Rattle.nest_syntax.specs.Among.{Each}
-use Rattle.nest_syntax.specs.Arrays.{Array, arrays_of, sizes_of, word_number, word_at, with_word}
+use Rattle.nest_syntax.specs.Arrays.{Array, arrays_of, word_number, word_at, with_word}
 use Rattle.word_store.specs.Memory.{Memory}
-use Rattle.settle_law.specs.Traces.{Access, Read, Write}
+use Rattle.settle_law.specs.Traces.{Read, Write}
 use Rattle.settle_law.specs.Reading.{is_fixed_word, fixed_in, told}
 use Rattle.task_frame.specs.declared.piece.Piece.{Piece}
 use Rattle.epoch_plan.specs.declared.tasks.Seen.{Seen}

@@ -1,5 +1,5 @@
 -- A plan keeps what a run needs, and a table with nothing open is the machine's opening.
-use Rattle.std.proofs.Common.{◌≡◌, ℕ, zero, suc, ◌+◌, ◌*◌, ◌<◌, ◌≤◌, ℤ, Bool, true, false, Option, None, Some, List, [], ◌∷◌, map, length, replicate, slice_index_or, sum, refl, sym, subst, ap, ◌∙◌, arith}
+use Rattle.std.proofs.Common.{◌≡◌, ℕ, zero, suc, ◌<◌, ◌≤◌, ℤ, true, false, Option, None, Some, List, [], ◌∷◌, map, length, replicate, slice_index_or, sum, refl, sym, subst, ap, ◌∙◌, arith}
 use Rattle.std.specs.Prelude.{slice_get}
 use Rattle.std.specs.Option.{option_map_or, option_and_then}
 use Rattle.std.proofs.lemmas.List.{length-map, length-replicate}
@@ -7,7 +7,7 @@ use Rattle.nest_syntax.specs.declared.tree.Loop.{Loop}
 use Rattle.nest_syntax.specs.declared.tree.Program.{Program}
 use Rattle.nest_syntax.specs.Among.{Each}
 use Rattle.nest_syntax.specs.Arrays.{Array, arrays_of, sizes_of}
-use Rattle.nest_syntax.specs.Shape.{Body, bodies_of, invoked_by}
+use Rattle.nest_syntax.specs.Shape.{Body, invoked_by}
 use Rattle.nest_partition.specs.Split.{IsSplitOf}
 use Rattle.word_store.specs.Memory.{most_words}
 use Rattle.nest_mean.specs.Nest.{Nest, CanRun, IsWellFormed}

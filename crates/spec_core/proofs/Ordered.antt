@@ -1,10 +1,9 @@
 -- The pairs of n epochs stand in their order.
-use Rattle.std.proofs.Common.{◌≡◌, ℕ, zero, suc, ◌+◌, ◌<◌, ◌≤◌, ◌⊎◌, Bool, true, false, ◌&&◌, ◌||◌, not, ◌==◌, if◌then◌else◌, Option, Some, None, List, [], ◌∷◌, ◌++◌, refl, sym, ap, ◌∙◌, subst, inl, inr, ⊎_elim, arith, append-nil}
-use Rattle.std.proofs.lemmas.Bool.{and_from, or_left, or_right, lt-ltb, eq-eqb, true≢false}
+use Rattle.std.proofs.Common.{◌≡◌, ℕ, zero, suc, ◌<◌, Bool, true, false, ◌==◌, if◌then◌else◌, Some, List, [], ◌∷◌, ◌++◌, refl, sym, ap, ◌∙◌, subst, inl, inr, ⊎_elim, arith, append-nil}
+use Rattle.std.proofs.lemmas.Bool.{and_from, or_left, or_right, lt-ltb, eq-eqb}
 use Rattle.std.proofs.lemmas.Grind.{flat_map-append}
 use Rattle.std.specs.List.{find, filter, flat_map}
-use Rattle.nest_syntax.specs.declared.names.TaskName.{TaskName}
-use Rattle.spec_checker.specs.Order.{is_before, is_pair_before}
+use Rattle.spec_checker.specs.Order.{is_pair_before}
 use Rattle.spec_machine.specs.Facts.{Pair}
 use Rattle.spec_machine.specs.Machine.{below, pair_of, pairs_with, pairs_late, pairs}
 use Rattle.spec_machine.specs.Table.{In}

@@ -1,16 +1,12 @@
 -- Unordered pairs, what is passed of them, and the pair due, as they are kept and as the abstract machine has them.
-use Rattle.std.proofs.Common.{◌≡◌, ℕ, zero, suc, ◌+◌, ◌*◌, ◌<◌, ◌≤◌, ◌⊎◌, Bool, true, false, ◌&&◌, ◌||◌, not, ◌==◌, nat_le, nat_lt, if◌then◌else◌, Option, Some, None, List, [], ◌∷◌, ◌++◌, map, length, slice_index_or, refl, sym, ap, ◌∙◌, subst, inl, inr, ⊎_elim, arith}
-use Rattle.std.proofs.lemmas.Bool.{and_from, and_parts, not-true, cases_Bool, true≢false}
-use Rattle.std.specs.List.{find, filter, list_any, range_with_len}
+use Rattle.std.proofs.Common.{◌≡◌, ℕ, zero, suc, ◌+◌, ◌<◌, nat_le, List, [], map, length, slice_index_or, ap, ◌∙◌, arith}
+use Rattle.std.specs.List.{range_with_len}
 use Rattle.epoch_plan.specs.declared.tasks.Seen.{Seen}
-use Rattle.spec_checker.specs.Order.{Pair as Names, is_before, is_pair_before, is_passed as is_behind}
-use Rattle.spec_machine.specs.Facts.{Task, Pair}
-use Rattle.spec_machine.specs.Machine.{Seat, seat_at, saw, is_unordered, is_passed, is_open, pairs}
-use Rattle.spec_machine.specs.Table.{In}
-use Rattle.spec_machine.proofs.Lists.{IsPair, pairs_in}
+use Rattle.spec_machine.specs.Facts.{Pair}
+use Rattle.spec_machine.specs.Machine.{Seat, saw, is_unordered}
 use Rattle.task_frame.specs.declared.piece.Piece.{Piece}
-use Rattle.spec_core.specs.Hands.{Bench, bench_at, seen_at, seen_by, seat_in, seats_of}
-use Rattle.spec_core.specs.Passed.{names_of, pair_in, unordered_in, passed_in}
+use Rattle.spec_core.specs.Hands.{Bench, bench_at, seen_at, seats_of}
+use Rattle.spec_core.specs.Passed.{unordered_in}
 use Rattle.spec_core.proofs.Seating.{seats_there}
 
 -- what a worker's task saw is what stands there, where it has begun

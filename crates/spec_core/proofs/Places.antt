@@ -1,11 +1,11 @@
 -- A place inside an array.
-use Rattle.std.proofs.Common.{◌≡◌, ℕ, ◌<◌, ◌≤◌, ◌^◌, ℤ, pos, nat_lt, if◌then◌else◌, Option, Some, List, length, sum, get_or, ap, ◌∙◌, arith, ⊎_elim}
+use Rattle.std.proofs.Common.{◌≡◌, ℕ, ◌<◌, ◌≤◌, ◌^◌, ℤ, pos, nat_lt, Some, List, length, sum, get_or, ap, arith, ⊎_elim}
 use Rattle.std.specs.Option.{option_map, option_map_or}
 use Rattle.std.proofs.Math.ListN.{get_or-eq_default}
 use Rattle.std.proofs.lemmas.Bool.{cases_lt, lt-ltb, cond-true}
 use Rattle.std.proofs.lemmas.List.Sums.{get_or-le-sum_by}
 use Rattle.nest_syntax.specs.Arrays.{word_at, with_word, word_number, place_of}
-use Rattle.word_store.specs.Memory.{Memory, IsSound, number_at, loaded, stored}
+use Rattle.word_store.specs.Memory.{Memory, IsSound, loaded, stored}
 
 pub array_there : (sizes : List ℕ) (array place : ℕ) → place < get_or sizes array 0 → array < length sizes
 array_there sizes array place inside = ⊎_elim (λ (less : array < length sizes). less) (λ (past : length sizes ≤ array). (let none : get_or sizes array 0 ≡ 0 = get_or-eq_default sizes 0 past in absurd (omega arith))) (cases_lt array (length sizes))

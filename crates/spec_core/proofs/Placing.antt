@@ -1,5 +1,5 @@
 -- A row of a worker leaves the state behind its move, and a sound table.
-use Rattle.std.proofs.Common.{◌≡◌, ℕ, zero, suc, ◌+◌, ◌<◌, ◌≤◌, true, false, nat_lt, if◌then◌else◌, Option, Some, None, List, [], ◌∷◌, map, length, slice_set, slice_index, get_or, refl, sym, ap, ◌∙◌, subst, arith, length-set}
+use Rattle.std.proofs.Common.{◌≡◌, ℕ, zero, suc, ◌<◌, ◌≤◌, true, false, nat_lt, if◌then◌else◌, Option, Some, List, [], ◌∷◌, map, length, slice_set, slice_index, get_or, refl, sym, ap, ◌∙◌, subst, arith, length-set}
 use Rattle.std.proofs.lemmas.List.{get_or_read_under}
 use Rattle.std.specs.Option.{option_map}
 use Rattle.std.specs.Vec.{with_item}
@@ -15,15 +15,13 @@ use Rattle.word_store.specs.Memory.{Memory}
 use Rattle.progress_board.specs.declared.facts.RollCause.{RollCause}
 use Rattle.task_frame.specs.declared.piece.Piece.{Piece}
 use Rattle.sched_cursor.specs.Cursor.{Cursor}
-use Rattle.spec_checker.specs.Order.{Pair as Names}
-use Rattle.spec_checker.specs.Due.{IsReached}
 use Rattle.spec_machine.specs.Machine.{Setup, Seat, Hand, Idle, Running, Stopped, DoNext, DoFinish, DoFail, DoTrap, seat_at, to, piece_at, worker_after, failing_move, end_move}
 use Rattle.spec_setup.specs.Setups.{Invoked}
 use Rattle.spec_core.specs.declared.plan.Plan.{Plan}
 use Rattle.spec_core.specs.declared.table.Table.{Table}
 use Rattle.spec_core.specs.Hands.{Bench, bench_at, idle_bench, seat_in, seats_of}
 use Rattle.spec_core.specs.Reports.{abort_in}
-use Rattle.spec_core.specs.Tables.{state_of, IsPlan, IsDeskBy, IsBenchBy, IsSound}
+use Rattle.spec_core.specs.Tables.{state_of, IsPlan, IsBenchBy, IsSound}
 use Rattle.spec_core.specs.Passed.{passed_in}
 use Rattle.spec_core.proofs.Seating.{seats_put, seats_there}
 

@@ -1,13 +1,12 @@
 -- What the scheduler's rows leave.
-use Rattle.std.proofs.Common.{◌≡◌, ℕ, suc, ◌+◌, ◌≤◌, ℤ, Bool, true, false, if◌then◌else◌, Option, Some, None, Result, Ok, Err, List, [], length, map, slice_get, refl, sym, ap, ◌∙◌, subst, arith}
+use Rattle.std.proofs.Common.{◌≡◌, ◌+◌, ℤ, Bool, true, false, if◌then◌else◌, Option, Some, None, Result, Ok, Err, List, [], slice_get, refl, sym, ap, ◌∙◌, subst}
 use Rattle.std.specs.List.{list_any}
-use Rattle.nest_syntax.specs.Arrays.{Array, arrays_of}
+use Rattle.nest_syntax.specs.Arrays.{Array}
 use Rattle.nest_syntax.specs.Value.{names_written}
 use Rattle.nest_syntax.specs.Course.{Purpose}
 use Rattle.nest_syntax.specs.Outcome.{place_of_trap}
 use Rattle.settle_law.specs.Courses.{Trap}
 use Rattle.task_frame.specs.declared.piece.Piece.{Piece}
-use Rattle.sched_cursor.specs.declared.event.Iteration.{Iteration}
 use Rattle.sched_cursor.specs.declared.event.Event.{Event as Kind}
 use Rattle.sched_cursor.specs.declared.event.Event.TheVariants as kind
 use Rattle.sched_cursor.specs.declared.node.Next.TheVariants as next
@@ -18,13 +17,12 @@ use Rattle.sched_cursor.specs.Steps.{exprs_of}
 use Rattle.sched_cursor.specs.Cursor.{Cursor}
 use Rattle.sched_cursor.specs.Events.{event_of, kind_found, kind_at, kind_of, purpose_at, after_at, after_event, handed_at, trap_in, cursor_or, is_inside, is_iteration}
 use Rattle.sched_cursor.proofs.Counting.{events_count}
-use Rattle.spec_machine.specs.Invocations.{Event, Scalar, Drain, Invoke, End}
+use Rattle.spec_machine.specs.Invocations.{Event, Scalar, Drain}
 use Rattle.spec_machine.specs.Facts.{computed}
 use Rattle.spec_machine.specs.Machine.{Setup, scalar_after}
 use Rattle.spec_setup.specs.Setups.{Invoked, by_invocations, invoking, invocation_at}
 use Rattle.spec_core.specs.declared.desk.Desk.{Desk}
 use Rattle.spec_core.specs.declared.table.Table.{Table}
-use Rattle.spec_core.specs.Tallies.{Tallied}
 use Rattle.spec_core.specs.Engine.{Stand}
 use Rattle.spec_core.specs.Tables.{state_of}
 

@@ -1,10 +1,10 @@
 -- Seats as they are kept, and as the abstract machine has them.
-use Rattle.std.proofs.Common.{◌≡◌, ℕ, zero, suc, ◌+◌, ◌*◌, ◌<◌, ◌≤◌, Bool, true, false, ◌&&◌, ◌||◌, List, [], ◌∷◌, ◌++◌, map, take, length, replicate, slice_index_or, slice_set, refl, sym, ap, ◌∙◌, subst, arith}
+use Rattle.std.proofs.Common.{◌≡◌, ℕ, zero, suc, ◌+◌, ◌<◌, Bool, ◌&&◌, ◌||◌, List, [], ◌∷◌, map, length, slice_set, refl, ap, ◌∙◌, arith}
 use Rattle.std.specs.List.{list_all, list_any}
 use Rattle.task_frame.specs.declared.piece.Piece.{Piece}
 use Rattle.epoch_plan.specs.declared.tasks.Seen.{Seen}
-use Rattle.spec_machine.specs.Machine.{Seat, Hand, seat_at, fresh_seat}
-use Rattle.spec_core.specs.Hands.{Bench, bench_at, idle_bench, seat_in, seats_from, seats_of}
+use Rattle.spec_machine.specs.Machine.{Seat, Hand, seat_at}
+use Rattle.spec_core.specs.Hands.{Bench, bench_at, seat_in, seats_from, seats_of}
 
 module _ {G : Type 0} (width : ℕ) (seen : List Seen) where
   pub many : (k : ℕ) (benches : List (Bench G)) → length (seats_from width seen k benches) ≡ length benches

@@ -1,6 +1,6 @@
 -- What a worker that stands at an iteration has: its task is begun and its epoch open, and the iteration is in its block.
-use Rattle.std.proofs.Common.{◌≡◌, ℕ, suc, ◌+◌, ◌-◌, ◌<◌, ◌≤◌, ◌^◌, Bool, true, false, if◌then◌else◌, nat_lt, Option, Some, None, List, length, refl, sym, ap, ◌∙◌, subst, arith}
-use Rattle.std.proofs.lemmas.Bool.{lt-ltb, le-ltb, ltb-true, ltb-false}
+use Rattle.std.proofs.Common.{◌≡◌, ℕ, suc, ◌+◌, ◌-◌, ◌<◌, ◌≤◌, Bool, true, false, if◌then◌else◌, nat_lt, Some, None, List, length, refl, sym, ap, ◌∙◌, subst, arith}
+use Rattle.std.proofs.lemmas.Bool.{lt-ltb}
 use Rattle.std.proofs.lemmas.List.FromFn.{length-map-range_with_len}
 use Rattle.std.specs.Option.{option_map}
 use Rattle.task_hop.specs.declared.frame.Frame.{Frame}
@@ -10,7 +10,7 @@ use Rattle.task_frame.specs.Pieces.{reached}
 use Rattle.epoch_plan.specs.declared.blocks.Epoch.{Epoch as Planned}
 use Rattle.nest_setup.specs.Pieces.{opening_piece, stop_told, stop_of}
 use Rattle.sched_cursor.specs.Cursor.{Cursor}
-use Rattle.spec_machine.specs.Machine.{Setup, Seat, Epoch, Hand, Idle, Running, share, seat_at, from, to, piece_at, worker_after, stop_move}
+use Rattle.spec_machine.specs.Machine.{Setup, Seat, Epoch, Idle, Running, share, from, to, piece_at, worker_after, stop_move}
 use Rattle.spec_machine.proofs.Plans.{share_rises, share_all}
 use Rattle.spec_setup.specs.Signs.{Signs}
 use Rattle.spec_setup.specs.Setups.{Invoked, handed}

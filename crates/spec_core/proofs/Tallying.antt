@@ -1,13 +1,12 @@
 -- The list of a tally.
 use Rattle.std.proofs.Common.{◌≡◌, ℕ, zero, suc, ◌+◌, ◌-◌, ◌≤◌, ◌<◌, min, Option, Some, None, List, [], ◌∷◌, ◌++◌, length, map, take, replicate, set, refl, sym, ap, ◌∙◌, arith, ⊎_elim, length-append}
-use Rattle.progress_board.specs.declared.options.Options.{Options}
 use Rattle.std.proofs.lemmas.Bool.{cases_lt}
 use Rattle.std.proofs.lemmas.List.{length-replicate, length-map, length-take, take_all, take_at}
 use Rattle.progress_board.specs.declared.facts.Facts.{Facts as Report}
 use Rattle.progress_board.specs.declared.facts.Rollback.{Rollback as Told}
 use Rattle.progress_board.specs.declared.facts.RollCause.{RollCause}
 use Rattle.progress_board.specs.declared.facts.RollCause.TheVariants as causes
-use Rattle.spec_machine.specs.Facts.{Facts, Rollback, Abort, Overlaps, Fails, restored}
+use Rattle.spec_machine.specs.Facts.{Rollback, Abort, Overlaps, Fails, restored}
 use Rattle.spec_core.specs.Reports.{abort_in, cause_of, rollback_of, places_of, report_of}
 use Rattle.spec_core.specs.Tallies.{Tallied, listed_in, tallied, IsTallied}
 

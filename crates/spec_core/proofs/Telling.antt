@@ -1,5 +1,5 @@
 -- The moves of a table's actors, as they are told.
-use Rattle.std.proofs.Common.{◌≡◌, ℕ, zero, suc, ◌+◌, ◌<◌, ◌≤◌, Bool, true, false, ◌&&◌, not, is_some, if◌then◌else◌, nat_lt, nat_le, ◌==◌, Option, Some, None, List, [], ◌∷◌, length, refl, sym, ap, ◌∙◌, subst, arith}
+use Rattle.std.proofs.Common.{◌≡◌, ℕ, suc, ◌+◌, ◌<◌, ◌≤◌, Bool, true, false, ◌&&◌, not, is_some, if◌then◌else◌, nat_lt, nat_le, ◌==◌, Option, Some, None, List, [], ◌∷◌, length, refl, sym, ap, ◌∙◌, subst, arith}
 use Rattle.std.proofs.lemmas.Bool.{and_parts, eqb-true, eq-eqb, lt-ltb, le-ltb}
 use Rattle.std.proofs.lemmas.List.{get_or_past}
 use Rattle.std.specs.Option.{option_map}
@@ -16,16 +16,15 @@ use Rattle.spec_setup.specs.Signs.{Signs}
 use Rattle.spec_setup.specs.Setups.{Invoked}
 use Rattle.spec_core.specs.declared.plan.Plan.{Plan}
 use Rattle.spec_core.specs.declared.table.Table.{Table}
-use Rattle.spec_core.specs.declared.stage.Stage.{Stage}
 use Rattle.spec_core.specs.declared.stage.Stage.TheVariants as stage
 use Rattle.spec_core.specs.declared.moves.Move.{Move as Told}
-use Rattle.spec_core.specs.declared.moves.Move.TheVariants.{Turn, Hop}
+use Rattle.spec_core.specs.declared.moves.Move.TheVariants.{Turn}
 use Rattle.spec_core.specs.declared.moves.Turn.{Turn as OwnMove}
 use Rattle.spec_core.specs.declared.moves.Turn.TheVariants as turn
 use Rattle.spec_core.specs.Moves.{told}
-use Rattle.spec_core.specs.Hands.{Bench, bench_at, seats_of}
+use Rattle.spec_core.specs.Hands.{Bench, bench_at}
 use Rattle.spec_core.specs.Reports.{abort_in}
-use Rattle.spec_core.specs.Blocks.{epochs_in, has_below_in}
+use Rattle.spec_core.specs.Blocks.{has_below_in}
 use Rattle.spec_core.specs.Stages.{stage_of, standing_move, empty_move, early_turn}
 use Rattle.spec_core.specs.Engine.{Stand, told_in}
 use Rattle.spec_core.specs.Tables.{state_of, setup_by, IsSound}

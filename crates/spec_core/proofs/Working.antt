@@ -1,8 +1,7 @@
 -- What an engine makes of a move.
-use Rattle.std.proofs.Common.{◌≡◌, ℕ, zero, suc, ◌+◌, ◌<◌, ◌≤◌, Bool, true, false, if◌then◌else◌, nat_lt, Option, Some, None, List, length, refl, sym, ap, ◌∙◌, subst, arith}
+use Rattle.std.proofs.Common.{◌≡◌, ℕ, zero, suc, ◌<◌, ◌≤◌, Bool, true, false, if◌then◌else◌, nat_lt, Some, None, List, length, refl, sym, ap, ◌∙◌, subst, arith}
 use Rattle.std.specs.Option.{option_map, option_map_or}
-use Rattle.std.proofs.lemmas.Bool.{lt-ltb, le-ltb}
-use Rattle.nest_syntax.specs.Arrays.{arrays_of, sizes_of}
+use Rattle.std.proofs.lemmas.Bool.{lt-ltb}
 use Rattle.task_hop.specs.declared.frame.Frame.{Frame}
 use Rattle.task_hop.specs.declared.stop.Stop.{Stop}
 use Rattle.task_hop.specs.declared.stop.Stop.TheVariants as stop
@@ -27,10 +26,10 @@ use Rattle.spec_core.specs.declared.table.Table.{Table}
 use Rattle.spec_core.specs.declared.moves.Move.TheVariants.{Turn, Hop}
 use Rattle.spec_core.specs.declared.moves.Turn.{Turn as OwnMove}
 use Rattle.spec_core.specs.declared.moves.Turn.TheVariants as turn
-use Rattle.spec_core.specs.Moves.{told, finish_told, row_of_turn}
+use Rattle.spec_core.specs.Moves.{told, row_of_turn}
 use Rattle.spec_core.specs.Hands.{Bench, bench_at}
-use Rattle.spec_core.specs.Engine.{Engine, Stand, Move, told_in, asked, move_of, made_by, made_of, number_by, number_of, board_row, row_at, check_made}
-use Rattle.spec_core.specs.Tables.{state_of, setup_by, sizes_by, IsPlan, IsSound, GoesOn}
+use Rattle.spec_core.specs.Engine.{Engine, Stand, Move, told_in, asked, made_by, made_of, number_by, number_of, board_row, row_at, check_made}
+use Rattle.spec_core.specs.Tables.{state_of, setup_by, sizes_by, GoesOn}
 use Rattle.spec_core.specs.Kept.{engine_of, IsKept}
 use Rattle.spec_core.proofs.Seating.{many, seats_there}
 use Rattle.spec_core.proofs.Blocks.{many_epochs}
@@ -42,10 +41,6 @@ pub number_there : {G : Type 0} (plan : Plan) (table : Table G) (u done : ℕ) �
 number_there {G} plan table u done many own is =
     is ∙ sym (ap (λ b. if b then done_at (state_of table).seats u else length (state_of table).epochs) (lt-ltb u plan.options.workers own)
     ∙ ap (λ (x : Seat Piece G). x.done) (seats_there table.seen.items table.seats.items u (subst (λ n. u < n) (sym many) own)))
-
-pub number_past : {G : Type 0} (plan : Plan) (table : Table G) (u epochs : ℕ) → plan.options.workers ≤ u → epochs ≡ length table.desk.epochs → epochs ≡ number_by (state_of table) plan.options.workers u
-number_past plan table u epochs past is =
-    is ∙ sym (ap (λ b. if b then done_at (state_of table).seats u else length (state_of table).epochs) (le-ltb u plan.options.workers past) ∙ many_epochs table.desk.epochs)
 
 module _ {G : Type 0} (s : Signs G) (sizes_in : G → List ℕ) (plan : Plan) (table : Table G) (kept : IsKept s sizes_in plan table) (u : ℕ) where
   abbrev m : Setup Invoked Cursor Piece G
@@ -116,12 +111,12 @@ module _ {G : Type 0} (s : Signs G) (sizes_in : G → List ℕ) (plan : Plan) (t
   stop_row (stop.Go next) frame d k = refl
   stop_row stop.Finish frame d k = by (nat_lt (suc k) (to m st.epochs d u))
     where
-      by : (t : Bool) → board_row (rows.row_of (if t then machine.DoNext (suc k) (machine.piece_at m st.epochs d (suc k)) else machine.DoFinish)) ≡ row_at stop.Finish t
+      by : (t : Bool) → board_row (rows.row_of {B = Invoked} {C = Cursor} (if t then machine.DoNext (suc k) (machine.piece_at m st.epochs d (suc k)) else machine.DoFinish)) ≡ row_at stop.Finish t
       by true = refl
       by false = refl
   stop_row (stop.Trap cause line) frame d k = by st.distance
     where
-      by : (distance : ℕ) → board_row (rows.row_of (machine.failing_move m distance k cause line)) ≡ row_at (stop.Trap cause line) (nat_lt (suc k) (to m st.epochs d u))
+      by : (distance : ℕ) → board_row (rows.row_of {B = Invoked} {C = Cursor} (machine.failing_move m distance k cause line)) ≡ row_at (stop.Trap cause line) (nat_lt (suc k) (to m st.epochs d u))
       by zero = refl
       by (suc distance) = refl
 

@@ -1,21 +1,17 @@
 -- The engine: the abstract machine on a job and options, with the code of the job's bodies.
-use Rattle.std.specs.Prelude.{◌≡◌, ℕ, ◌+◌, ◌<◌, Bool, true, false, if◌then◌else◌, nat_lt, ◌==◌, Option, Some, None, List, length, slice_index_or}
+use Rattle.std.specs.Prelude.{◌≡◌, ℕ, Bool, true, false, if◌then◌else◌, nat_lt, Option, Some, None, length}
 use Rattle.std.specs.Option.{option_map, option_map_or}
 use Rattle.nest_syntax.specs.declared.place.Place.{Place}
 use Rattle.nest_syntax.specs.Arrays.{arrays_of, sizes_of}
-use Rattle.nest_syntax.specs.Shape.{bodies_of}
-use Rattle.nest_syntax.specs.Outcome.{body_at}
 use Rattle.nest_mean.specs.Nest.{Nest}
 use Rattle.word_store.specs.Memory.{Memory}
 use Rattle.settle_law.specs.Courses.{nest_of}
 use Rattle.settle_law.specs.Courses as courses
-use Rattle.task_hop.specs.declared.frame.Frame.{Frame}
 use Rattle.task_hop.specs.declared.stop.Stop.{Stop}
 use Rattle.task_hop.specs.declared.stop.Stop.TheVariants as stop
 use Rattle.task_code.specs.Code.{Code}
 use Rattle.task_code.specs.CodeOf.{IsCodeOf}
 use Rattle.task_frame.specs.declared.piece.Piece.{Piece}
-use Rattle.task_frame.specs.Pieces.{piece_at, reached}
 use Rattle.sched_cursor.specs.Cursor.{Cursor}
 use Rattle.sched_cursor.specs.Laws.{IsCursorOf, restarted}
 use Rattle.progress_board.specs.declared.options.Options.{Options}

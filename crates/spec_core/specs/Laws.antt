@@ -1,11 +1,11 @@
 -- The engine keeps the laws of a machine, since its abstract machine does.
-use Rattle.std.specs.Prelude.{◌≡◌, ◌↔◌, ℕ, suc, ◌+◌, ◌≤◌, ◌<◌, Bool, true, false, nat_lt, ◌==◌, if◌then◌else◌, Option, None, Some, is_some, List, [], ◌∷◌, length, refl}
+use Rattle.std.specs.Prelude.{◌≡◌, ◌↔◌, ℕ, suc, ◌+◌, ◌≤◌, Bool, true, false, nat_lt, ◌==◌, if◌then◌else◌, Option, None, Some, is_some, List, [], ◌∷◌, length, refl}
 use Rattle.std.specs.Option.{option_map, option_map_or, option_and_then}
 use Rattle.std.proofs.Common.{arith, ap, ◌∙◌, sym, subst}
 use Rattle.std.proofs.lemmas.Bool.{le-ltb, lt-ltb, ltb-false, ne_eqb, cond-false}
 use Rattle.nest_syntax.specs.Shape.{bodies_of}
 use Rattle.nest_syntax.specs.Outcome.{body_at}
-use Rattle.nest_mean.specs.Nest.{Nest, CanRun, IsWellFormed}
+use Rattle.nest_mean.specs.Nest.{CanRun, IsWellFormed}
 use Rattle.progress_board.specs.declared.options.Options.{Options}
 use Rattle.progress_board.specs.declared.actors.Row.TheVariants as board
 use Rattle.progress_board.specs.declared.actors.Work.{Work}
@@ -20,7 +20,6 @@ use Rattle.nest_tasks.specs.Longest.{longest, LongestFalls}
 use Rattle.nest_setup.specs.Laws.{cost_by}
 use Rattle.spec_machine.specs.Machine as machine
 use Rattle.spec_machine.specs.Machine.{Hand}
-use Rattle.spec_machine.specs.Runs as runs
 use Rattle.spec_machine.specs.Measure.{bound}
 use Rattle.spec_machine.specs.Theorems.{Leads}
 use Rattle.spec_machine.proofs.Runs.{ended_stay}
@@ -29,7 +28,7 @@ use Rattle.spec_setup.specs.Signs.{Signs, HoldNotes}
 use Rattle.spec_setup.specs.Setups.{is_word_of, IsPrepared}
 use Rattle.spec_core.specs.declared.moves.Move.{Move as Told}
 use Rattle.spec_core.specs.Moves.{told}
-use Rattle.spec_core.specs.Engine.{Engine, Stand, Move, nest_in, hand_at, answer, work_of_move, made_of, is_finished, setup_in, Opens, IsOpened, IsLegalEngine, move_of, told_of, step, has_ended, asked, made_by}
+use Rattle.spec_core.specs.Engine.{Engine, Stand, Move, nest_in, hand_at, answer, work_of_move, made_of, is_finished, setup_in, IsOpened, IsLegalEngine, move_of, told_of, step, has_ended, asked, made_by}
 use Rattle.spec_core.specs.Names.{IsNamed, named}
 use Rattle.spec_core.specs.Below.{body_costs_bound_turns, bounded_histories_fall, setups_keep_nests, scripts_stay}
 

@@ -1,9 +1,7 @@
 -- The moves of the machine as they are told, without the data that they act on.
-use Rattle.task_hop.specs.declared.stop.Stop.{Stop}
-use Rattle.task_hop.specs.declared.stop.Stop.TheVariants as stop
 use Rattle.progress_board.specs.declared.actors.Row.{Row}
 use Rattle.progress_board.specs.declared.actors.Row.TheVariants as row
-use Rattle.spec_machine.specs.Machine.{Hand, Idle, Empty, Running, Stopped, Move as MachineMove, DoScalar, DoDrain, DoOpen, DoClose, DoCommit, DoRestore, DoConclude, DoBegin, DoRead, DoWrite, DoGo, DoNext, DoFinish, DoFail, DoTrap, DoLetGo, DoStop, DoCheck, DoAbort}
+use Rattle.spec_machine.specs.Machine.{Hand, Running, Move as MachineMove, DoScalar, DoDrain, DoOpen, DoClose, DoCommit, DoRestore, DoConclude, DoBegin, DoRead, DoWrite, DoGo, DoNext, DoFinish, DoFail, DoTrap, DoLetGo, DoStop, DoCheck, DoAbort}
 use Rattle.spec_core.specs.declared.moves.Move.{Move}
 use Rattle.spec_core.specs.declared.moves.Move.TheVariants.{Turn, Hop}
 use Rattle.spec_core.specs.declared.moves.Turn.{Turn as OwnMove}

@@ -20,8 +20,7 @@ use Rattle.spec_machine.specs.Rows as rows
 use Rattle.spec_machine.specs.Machine.{Setup, State, Hand, Idle, Empty, Running, Stopped, Epoch, to}
 use Rattle.spec_machine.specs.Machine as machine
 use Rattle.spec_setup.specs.Setups.{Invoked}
-use Rattle.spec_core.specs.declared.moves.Move.{Move as Told}
-use Rattle.spec_core.specs.declared.moves.Move.TheVariants.{Turn, Hop}
+use Rattle.spec_core.specs.declared.moves.Move.TheVariants.{Hop}
 use Rattle.spec_core.specs.Moves.{told}
 use Rattle.spec_core.specs.Engine.{Stand, Move, work_of_move, board_row}
 

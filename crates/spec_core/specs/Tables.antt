@@ -1,15 +1,12 @@
 -- The state of the abstract machine that a table holds, and what the table keeps besides.
-use Rattle.std.specs.Prelude.{◌≡◌, ℕ, ◌+◌, ◌*◌, ◌≤◌, ◌<◌, ◌^◌, ℤ, Bool, List, [], ◌∷◌, ◌++◌, map, length, sum, Option, Some, None, true, false, slice_index_or}
+use Rattle.std.specs.Prelude.{◌≡◌, ℕ, ◌+◌, ◌*◌, ◌≤◌, ◌<◌, ◌^◌, List, [], ◌∷◌, ◌++◌, map, length, Some, false, slice_index_or}
 use Rattle.std.specs.Option.{option_map}
 use Rattle.nest_syntax.specs.Among.{Each}
-use Rattle.nest_syntax.specs.declared.place.Place.{Place}
 use Rattle.nest_syntax.specs.Arrays.{Array, arrays_of, sizes_of}
 use Rattle.nest_syntax.specs.Shape.{bodies_of}
 use Rattle.nest_partition.specs.Split.{IsSplitOf}
 use Rattle.word_store.specs.Memory.{HasLayout}
-use Rattle.task_code.specs.Code.{Code}
 use Rattle.task_frame.specs.declared.piece.Piece.{Piece}
-use Rattle.task_frame.specs.Pieces.{reached}
 use Rattle.sched_cursor.specs.declared.node.At.{At}
 use Rattle.sched_cursor.specs.declared.node.At.TheVariants as at
 use Rattle.sched_cursor.specs.Cursor.{Cursor}
@@ -20,18 +17,18 @@ use Rattle.epoch_plan.specs.Blocks.{most_trips}
 use Rattle.spec_setup.specs.Signs.{Signs}
 use Rattle.spec_checker.specs.Order.{Pair as Names}
 use Rattle.spec_checker.specs.Due.{IsReached}
-use Rattle.spec_machine.specs.Facts.{Facts, opened}
-use Rattle.spec_machine.specs.Machine.{Setup, State, Hand, Idle, Empty, Running, Stopped, Seat, Epoch, done_at, seat_at, from, to}
+use Rattle.spec_machine.specs.Facts.{opened}
+use Rattle.spec_machine.specs.Machine.{Setup}
 use Rattle.spec_core.specs.declared.plan.Plan.{Plan}
 use Rattle.spec_core.specs.declared.desk.Desk.{Desk}
 use Rattle.spec_core.specs.declared.table.Table.{Table}
 use Rattle.spec_setup.specs.Setups.{Invoked, is_do_all}
 pub use Rattle.spec_setup.specs.Ahead.{HasFew, HandGoesOn, GoesOn}
-use Rattle.spec_core.specs.Hands.{Bench, seats_of, bench_at}
+use Rattle.spec_core.specs.Hands.{Bench, seats_of}
 use Rattle.spec_core.specs.Reports.{abort_in}
 use Rattle.spec_core.specs.Passed.{passed_in}
 use Rattle.spec_core.specs.Blocks.{invocation_in, epochs_in}
-use Rattle.spec_core.specs.Engine.{Stand, setup_for, IsInside}
+use Rattle.spec_core.specs.Engine.{Stand, setup_for}
 
 abbrev pub state_of : {G : Type 0} → Table G → Stand G
 state_of table = record {

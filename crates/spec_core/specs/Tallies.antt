@@ -1,5 +1,5 @@
 -- The counts of a run as they are kept: as a report.
-use Rattle.std.specs.Prelude.{◌≡◌, ℕ, min, Option, Some, None, List, [], ◌∷◌, length}
+use Rattle.std.specs.Prelude.{◌≡◌, min, Option, Some, None, List, [], ◌∷◌, length}
 use Rattle.progress_board.specs.declared.options.Options.{Options}
 use Rattle.progress_board.specs.declared.facts.Facts.{Facts as Report}
 use Rattle.progress_board.specs.declared.facts.Rollback.{Rollback as Told}

@@ -3,6 +3,7 @@ ghost use Rattle.progress_board.specs.Options.{IsInRange};
 ghost use Rattle.progress_board.specs.Runs.{IsLegal};
 ghost use Rattle.progress_board.specs.declared.actors.Ask.TheVariants.{Ready};
 ghost use Rattle.progress_board.specs.declared.actors.Work.TheVariants as work;
+ghost use Rattle.task_frame.specs.declared.piece.Piece.{Piece as Stood};
 ghost use Rattle.spec_core.specs.Moves.{row_of_turn};
 ghost use Rattle.spec_core.specs.Signatures.{signs};
 ghost use Rattle.spec_core.specs.Engine.{Opens, step, asked, made_by, number_by, told_of, has_ended, is_finished, words_of, facts_of, ending_of};
@@ -64,9 +65,10 @@ impl<G: Signature> Spec<G> {
         Ok(Spec { plan, table })
     }
 
-    // The enabled move of an actor.
+    // The enabled move of an actor. A worker that hops has a piece.
     pub(crate) fn next_move(&self, actor: u8) -> Option<Move>
-        ensures { result ≡ told_of (signs G.EXACT G.holds G.nothing G.with_note) self.now actor }
+        ensures is { result ≡ told_of (signs G.EXACT G.holds G.nothing G.with_note) self.now actor }
+        ensures holds { result ≡ Some Move.Hop → (piece : Stood) × (asked (signs G.EXACT G.holds G.nothing G.with_note) self.now actor ≡ Ready (work.Hop piece)) }
     {
         self.table.next_move(&self.plan, actor)
     }

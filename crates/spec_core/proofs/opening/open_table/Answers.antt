@@ -1,7 +1,7 @@
 use Rattle.std.proofs.Common.{◌≡◌, ◌≤◌, None, Some, length, replicate, ap, sym, subst, ◌∙◌}
 use Rattle.std.proofs.lemmas.List.{length-replicate}
 use Rattle.nest_syntax.specs.Among.{Each}
-use Rattle.word_store.specs.Memory.{Memory, HasLayout}
+use Rattle.word_store.specs.Memory.{Memory}
 use Rattle.spec_core.specs.Signatures.{signs}
 use Rattle.spec_core.specs.Tables.{IsBenchBy, sizes_by}
 use Rattle.spec_core.proofs.Opened.{fresh, opened_state, each_same, fresh_bench, near}

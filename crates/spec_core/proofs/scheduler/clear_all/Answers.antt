@@ -1,4 +1,4 @@
-use Rattle.std.proofs.Common.{◌≡◌, ◌++◌, map, take, drop, get_or, slice_set, ap, ◌∙◌, arith, length-set}
+use Rattle.std.proofs.Common.{◌++◌, map, take, drop, get_or, slice_set, ap, ◌∙◌, arith, length-set}
 use Rattle.spec_core.specs.Hands.{cleared}
 use Rattle.spec_core.proofs.Clearing.{set_next}
 use Rattle.spec_core.proofs.scheduler.clear_all.Goals as goal

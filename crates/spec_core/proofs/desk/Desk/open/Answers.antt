@@ -1,10 +1,9 @@
-use Rattle.std.proofs.Common.{◌≡◌, ◌+◌, ◌≤◌, List, [], ◌∷◌, length, refl, sym, ap, ◌∙◌, subst, arith, length-append, rules, SFits, w64}
+use Rattle.std.proofs.Common.{◌≡◌, ◌+◌, length, sym, ap, ◌∙◌, subst, arith, length-append, rules, SFits, w64}
 use mir.Val.{to_z, of_z}
 use Rattle.std.proofs.lemmas.Int.{to_z-of_z}
 use Rattle.nest_syntax.proofs.Inductions.{each_both}
 use Rattle.nest_syntax.specs.Among.{Each}
 use Rattle.nest_syntax.specs.declared.tree.Program.{Program}
-use Rattle.epoch_plan.specs.declared.blocks.Epoch.{Epoch as Planned}
 use Rattle.sched_cursor.specs.Cursor.{Cursor}
 use Rattle.sched_cursor.specs.Laws.{IsCursorOf}
 use Rattle.spec_core.specs.Tallies.{Tallied}

@@ -1,4 +1,4 @@
-use Rattle.std.proofs.Common.{Some, refl, ap, ◌∙◌}
+use Rattle.std.proofs.Common.{Some, ap, ◌∙◌}
 use Rattle.spec_core.specs.declared.moves.Move.TheVariants.{Turn}
 use Rattle.spec_core.specs.declared.moves.Turn.TheVariants as turn
 use Rattle.spec_core.specs.Signatures.{signs}

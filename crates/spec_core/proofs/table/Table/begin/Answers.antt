@@ -1,13 +1,11 @@
-use Rattle.std.proofs.Common.{◌≡◌, refl, sym, ap, ◌∙◌, subst}
-use Rattle.spec_machine.specs.Machine.{Hand, Idle}
+use Rattle.std.proofs.Common.{ap, ◌∙◌}
 use Rattle.spec_core.specs.Signatures.{signs}
 use Rattle.spec_core.specs.Hands.{bench_at, hand_of}
 use Rattle.spec_core.specs.Blocks.{planned_at, block_in, first_in}
-use Rattle.spec_core.specs.Tables.{setup_by, sizes_by, HandGoesOn}
 use Rattle.spec_core.proofs.Placing.{was_is}
 use Rattle.spec_core.proofs.Blocks.{first_is}
 use Rattle.spec_core.proofs.Standing.{idle_begun}
-use Rattle.spec_core.proofs.Beginning.{room, short, place_there, begin_sound, begin_by}
+use Rattle.spec_core.proofs.Beginning.{room, begin_sound, begin_by}
 use Rattle.spec_core.proofs.table.Table.begin.Goals as goal
 
 pub begin-requires-clause-room : goal.begin-requires-clause-room

@@ -1,4 +1,4 @@
-use Rattle.std.proofs.Common.{◌≡◌, Some, List, [], ◌∷◌, ◌++◌, map, length, sym, ap, ◌∙◌, subst}
+use Rattle.std.proofs.Common.{◌≡◌, Some, [], ◌∷◌, ◌++◌, map, length, sym, ap, ◌∙◌, subst}
 use Rattle.spec_checker.specs.Order.{Pair as Names}
 use Rattle.spec_checker.specs.Due.{IsReached}
 use Rattle.spec_machine.specs.Facts.{Pair, checked}

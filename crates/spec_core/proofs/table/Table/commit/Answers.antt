@@ -1,6 +1,5 @@
-use Rattle.std.proofs.Common.{◌≡◌, ◌≤◌, false, [], refl, sym, ap, ◌∙◌, subst, arith}
+use Rattle.std.proofs.Common.{◌≤◌, sym, ap, ◌∙◌, subst, arith}
 use Rattle.word_store.specs.Memory.{Memory}
-use Rattle.spec_core.specs.declared.desk.Desk.{Desk}
 use Rattle.spec_core.specs.declared.table.Table.{Table}
 use Rattle.spec_core.specs.Tables.{IsDeskBy}
 use Rattle.spec_core.proofs.Clearing.{anew_sound, many_anew, far_few}

@@ -1,4 +1,4 @@
-use Rattle.std.proofs.Common.{List, ℤ, sym, ap, ◌∙◌}
+use Rattle.std.proofs.Common.{ap, ◌∙◌}
 use Rattle.nest_syntax.specs.Arrays.{arrays_of}
 use Rattle.spec_machine.specs.Invocations.{Drain}
 use Rattle.spec_machine.specs.Machine.{scalar_after}

@@ -1,13 +1,12 @@
-use Rattle.std.proofs.Common.{◌≡◌, ◌<◌, ◌≤◌, ◌+◌, suc, Some, None, refl, sym, ap, ◌∙◌, subst, arith}
+use Rattle.std.proofs.Common.{◌<◌, ◌≤◌, ◌+◌, refl, sym, ap, ◌∙◌, subst, arith}
 use Rattle.std.proofs.lemmas.Bool.{ltb-true}
 use Rattle.task_frame.specs.declared.piece.Piece.{Piece}
-use Rattle.spec_machine.specs.Machine.{Hand, Running, piece_at}
+use Rattle.spec_machine.specs.Machine.{Hand}
 use Rattle.spec_core.specs.Signatures.{signs}
 use Rattle.spec_core.specs.Hands.{Bench, bench_at}
-use Rattle.spec_core.specs.Blocks.{epochs_in}
 use Rattle.spec_core.specs.Tables.{setup_by, IsEpochBy}
-use Rattle.spec_core.proofs.Placing.{was_is, held_there, sound_held, sound_finished, few_done, next_by, end_by}
-use Rattle.spec_core.proofs.Standing.{Stands, stands, follows, ends, epoch_read, next_hand}
+use Rattle.spec_core.proofs.Placing.{was_is, sound_held, sound_finished, few_done, next_by, end_by}
+use Rattle.spec_core.proofs.Standing.{stands, follows, ends, epoch_read, next_hand}
 use Rattle.spec_core.proofs.table.Table.end.Goals as goal
 
 pub get-requires : goal.get-requires

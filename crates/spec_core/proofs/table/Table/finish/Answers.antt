@@ -2,7 +2,7 @@ use Rattle.std.proofs.Common.{suc, refl}
 use Rattle.task_frame.specs.declared.piece.Piece.{Piece}
 use Rattle.spec_machine.specs.Machine.{Seat, Idle}
 use Rattle.spec_core.specs.Hands.{Bench}
-use Rattle.spec_core.proofs.Placing.{row_by, sound_finished, few_done}
+use Rattle.spec_core.proofs.Placing.{row_by, sound_finished}
 use Rattle.spec_core.proofs.table.Table.finish.Goals as goal
 
 pub returns-clause-state : goal.returns-clause-state

@@ -7,7 +7,7 @@ use Rattle.spec_machine.specs.Machine.{DoWrite, worker_after}
 use Rattle.spec_core.specs.Signatures.{signs}
 use Rattle.spec_core.specs.Engine.{IsInside}
 use Rattle.spec_core.specs.Tables.{state_of, setup_by, sizes_by}
-use Rattle.spec_core.proofs.Standing.{Stands, stands, told_at}
+use Rattle.spec_core.proofs.Standing.{stands, told_at}
 use Rattle.spec_core.proofs.table.Table.hop.Goals as goal
 
 pub load-requires-clause-begun : goal.load-requires-clause-begun

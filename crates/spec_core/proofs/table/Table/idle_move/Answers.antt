@@ -1,6 +1,6 @@
 use Rattle.std.proofs.Common.{◌∙◌}
 use Rattle.spec_core.specs.Signatures.{signs}
-use Rattle.spec_core.proofs.Telling.{idle_free, idle_on, idle_off}
+use Rattle.spec_core.proofs.Telling.{idle_free, idle_on}
 use Rattle.spec_core.proofs.table.Table.idle_move.Goals as goal
 
 pub returns-in-None : goal.returns-in-None

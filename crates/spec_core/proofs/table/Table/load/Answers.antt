@@ -5,7 +5,7 @@ use Rattle.task_hop.specs.declared.frame.Register.TheVariants.{Temporary}
 use Rattle.task_hop.specs.Registers.{with_register}
 use Rattle.task_frame.specs.Pieces.{piece_at}
 use Rattle.spec_core.specs.Signatures.{signs}
-use Rattle.spec_core.proofs.Noting.{task_of, array_of, place_of, read_is, load_by, note_sound}
+use Rattle.spec_core.proofs.Noting.{read_is, load_by, note_sound}
 use Rattle.spec_core.proofs.table.Table.load.Goals as goal
 
 pub returns-clause-state : goal.returns-clause-state

@@ -1,7 +1,5 @@
-use Rattle.std.proofs.Common.{◌≡◌, suc, ◌+◌, ◌<◌, if◌then◌else◌, nat_lt, Some, None, sym, ap, ◌∙◌, arith}
-use Rattle.std.proofs.lemmas.Bool.{lt-ltb, le-ltb}
+use Rattle.std.proofs.Common.{◌≡◌, Some, None, sym, ap, ◌∙◌, arith}
 use Rattle.spec_core.specs.Signatures.{signs}
-use Rattle.spec_core.specs.Hands.{bench_at}
 use Rattle.spec_core.specs.Blocks.{planned_at, block_in}
 use Rattle.spec_core.proofs.Placing.{held_there, was_is}
 use Rattle.spec_core.proofs.Standing.{stands, block_is}

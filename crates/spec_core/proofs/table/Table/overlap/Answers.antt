@@ -1,8 +1,7 @@
-use Rattle.std.proofs.Common.{List, ap, ◌∙◌}
+use Rattle.std.proofs.Common.{◌∙◌}
 use Rattle.range_sign.specs.Overlap.{overlap_of}
 use Rattle.spec_core.specs.Signatures.{signs}
 use Rattle.spec_core.specs.Reports.{task_in}
-use Rattle.spec_core.specs.Tables.{sizes_by}
 use Rattle.spec_core.proofs.Checking.{sign_sizes, sign_is}
 use Rattle.spec_core.proofs.table.Table.overlap.Goals as goal
 

@@ -1,7 +1,7 @@
-use Rattle.std.proofs.Common.{◌≡◌, ◌≤◌, None, Some, length, replicate, refl, sym, ap, ◌∙◌, subst, arith}
+use Rattle.std.proofs.Common.{◌≡◌, None, Some, length, replicate, sym, ap, ◌∙◌, subst, arith}
 use Rattle.std.specs.Option.{option_map}
 use Rattle.word_store.specs.Memory.{Memory}
-use Rattle.spec_machine.specs.Facts.{Abort, restored}
+use Rattle.spec_machine.specs.Facts.{restored}
 use Rattle.spec_machine.specs.Machine.{fresh_seat}
 use Rattle.spec_core.specs.declared.desk.Desk.{Desk}
 use Rattle.spec_core.specs.declared.table.Table.{Table}

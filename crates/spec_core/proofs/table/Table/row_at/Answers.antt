@@ -1,4 +1,4 @@
-use Rattle.std.proofs.Common.{◌≡◌, ℕ, suc, Bool, true, false, if◌then◌else◌, nat_lt, Option, Some, None, refl, sym, ap, ◌∙◌}
+use Rattle.std.proofs.Common.{◌≡◌, ℕ, Bool, true, false, if◌then◌else◌, Some, None, refl, sym, ap, ◌∙◌}
 use Rattle.progress_board.specs.declared.actors.Row.TheVariants.{Hop, Finish}
 use Rattle.task_hop.specs.declared.stop.Stop.{Stop}
 use Rattle.task_hop.specs.declared.stop.Stop.TheVariants as stop

@@ -1,10 +1,10 @@
-use Rattle.std.proofs.Common.{◌≡◌, true, false, refl, sym, ap, ◌∙◌, rules, SFits, w64}
+use Rattle.std.proofs.Common.{true, false, ap, ◌∙◌, rules, SFits, w64}
 use Rattle.std.proofs.lemmas.Int.{to_z-of_z}
 use Rattle.nest_syntax.specs.Arrays.{word_number, with_word}
 use Rattle.word_store.specs.Memory.{Memory}
 use Rattle.task_frame.specs.Pieces.{piece_at}
 use Rattle.spec_core.specs.Signatures.{signs}
-use Rattle.spec_core.proofs.Noting.{task_of, array_of, place_of, store_by, note_sound}
+use Rattle.spec_core.proofs.Noting.{store_by, note_sound}
 use Rattle.spec_core.proofs.table.Table.store.Goals as goal
 
 pub returns-clause-state : goal.returns-clause-state

@@ -1,13 +1,8 @@
-use Rattle.std.proofs.Common.{◌≡◌, ℕ, suc, zero, ◌<◌, ◌∙◌, false, Some, refl, sym, ap, subst}
-use Rattle.nest_syntax.specs.declared.names.TaskName.{TaskName}
-use Rattle.nest_syntax.specs.Outcome.{place_of_trap}
-use Rattle.task_frame.specs.declared.piece.Piece.{Piece}
+use Rattle.std.proofs.Common.{false, Some, refl}
 use Rattle.progress_board.specs.declared.facts.RollCause.TheVariants as cause
-use Rattle.spec_machine.specs.Facts.{Fails}
-use Rattle.spec_machine.specs.Machine.{Seat, Idle, Stopped, DoFail, DoTrap, failing_move, worker_after}
+use Rattle.spec_machine.specs.Machine.{Idle, Stopped}
 use Rattle.spec_core.specs.Signatures.{signs}
-use Rattle.spec_core.specs.Hands.{Bench}
-use Rattle.spec_core.specs.Tables.{state_of, setup_by}
+use Rattle.spec_core.specs.Tables.{setup_by}
 use Rattle.spec_core.proofs.Placing.{sound_held, held_there, fails_by, traps_by}
 use Rattle.spec_core.proofs.table.Table.trap.Goals as goal
 

@@ -1,4 +1,4 @@
-use Rattle.std.proofs.Common.{◌≡◌, ap, ◌∙◌}
+use Rattle.std.proofs.Common.{ap, ◌∙◌}
 use Rattle.spec_machine.specs.Facts.{restored}
 use Rattle.spec_core.specs.Reports.{abort_in}
 use Rattle.spec_core.specs.Tallies.{Tallied}
