@@ -9,16 +9,13 @@ use Rattle.nest_input.specs.declared.refused.Refusal.{Refusal}
 use Rattle.nest_input.specs.Input.{SaysNest, SaysWords, SaysSteps}
 use Rattle.nest_mean.specs.Nest.{Nest}
 use Rattle.progress_board.specs.Options.{IsInRange}
-use Rattle.progress_board.specs.declared.options.Options.{Options}
-use Rattle.progress_board.specs.declared.options.Engine.{Engine}
-use Rattle.progress_board.specs.declared.options.Engine.TheVariants.{Domore, Speccross, Barrier}
 use Rattle.cross_top.specs.declared.status.Status.TheVariants as status
 use Rattle.cross_top.specs.declared.top.Unanswered.{Unanswered}
 use Rattle.cross_words.specs.declared.call.Action.{Action}
 use Rattle.cross_words.specs.declared.call.Action.TheVariants.{Plain, Check, Deps, Alone, Replay, Profile, Gen, Big, Run}
 use Rattle.cross_words.specs.declared.call.Call.{Call}
 use Rattle.nest_gen.specs.Generated.{generated}
-use Rattle.cross_top.specs.Words.{Ask, AskToRead, IsRunnable, is_domore, reads_input}
+use Rattle.cross_top.specs.Words.{Ask, AskToRead, reads_input}
 use Rattle.cross_top.specs.Threads.{is_threaded, IsThreaded}
 use Rattle.cross_top.specs.Answers.{Answer, refusal, refused_answer, job_of, AnswersData, AnswersProgram, AnswersInput, too_long, a_text, Answers, AnswersCall, AnswersThreads, gen_answer, is_gen, word_refused, AnswersSteps, AnswersReplay}
 use Rattle.cross_top.specs.Ends.{SourceChange, IsDue, IsDueTo, TakesInput, TakesWhere, IsAnsweredFrom}
@@ -106,15 +103,6 @@ unread_at words call ask none false is = is
 pub asks_unread : (words : List (List ℕ)) (call : Call) → Ask words (Some call) → (AskToRead words → ⊥) → reads_input call.action ≡ false
 asks_unread words call ask none = unread_at words call ask none (reads_input call.action) refl
 
-domore_alone : (e : Engine) → is_domore e ≡ true → e ≡ Domore
-domore_alone Domore is = refl
-domore_alone Speccross is = cc
-domore_alone Barrier is = cc
-
--- options that an engine stands for are runnable
-pub runs_domore : (options : Options) → IsInRange options → is_domore options.engine ≡ true → IsRunnable options
-runs_domore options allowed is = record { in_range = allowed; engine = domore_alone options.engine is }
-
 -- what is generated is printed
 pub generated_printed : (reply : Answer) (call : Call) (input text : List ℕ) → text ≡ input → is_gen call.action ≡ true → reply ≡ gen_answer text → Answers call input reply
 generated_printed reply call input text same printed is = subst (λ b. AnswersCall b call input reply) (sym printed) (is ∙ ap gen_answer same)
@@ -128,19 +116,17 @@ generated_run (Err e) call input text same none h = tt
 pub threads_answered : (r : Result Answer NoMemory) (call : Call) (input : List ℕ) (program : Program) → call.action ≡ Run → IfOk r (λ reply. AnswersData (AnswersThreads call program) input program reply) → IfOk r (λ reply. AnswersProgram call.action call input program reply)
 threads_answered r call input program is h = subst (λ (a : Action). IfOk r (λ reply. AnswersProgram a call input program reply)) (sym is) h
 
-threads_at : (action : Action) (engine : Engine) → is_threaded action engine ≡ true → (action ≡ Run) × (is_domore engine ≡ true)
-threads_at Run engine is = (refl, is)
-threads_at Plain engine is = cc
-threads_at Check engine is = cc
-threads_at Deps engine is = cc
-threads_at Alone engine is = cc
-threads_at Replay engine is = cc
-threads_at Profile engine is = cc
-threads_at Gen engine is = cc
-threads_at Big engine is = cc
+threads_at : (action : Action) → is_threaded action ≡ true → action ≡ Run
+threads_at Run is = refl
+threads_at Plain is = cc
+threads_at Check is = cc
+threads_at Deps is = cc
+threads_at Alone is = cc
+threads_at Replay is = cc
+threads_at Profile is = cc
+threads_at Gen is = cc
+threads_at Big is = cc
 
--- a call that is run by threads can be run
-pub runs_threads : (call : Call) → IsInRange call.options → is_threaded call.action call.options.engine ≡ true → IsThreaded call
-runs_threads call allowed is =
-    let both = threads_at call.action call.options.engine is in
-    record { action = both.0; runs = runs_domore call.options allowed both.1 }
+-- a call that is run by threads is that of `run`
+pub runs_threads : (call : Call) → IsInRange call.options → is_threaded call.action ≡ true → IsThreaded call
+runs_threads call allowed is = record { action = threads_at call.action is; in_range = allowed }

@@ -4,7 +4,7 @@ use Rattle.nest_syntax.specs.declared.names.NoMemory.{NoMemory}
 use Rattle.nest_syntax.specs.Outcome.{Ending, Done, TrappedAt, ending}
 use Rattle.nest_mean.specs.Nest.{Nest, CanRun}
 use Rattle.nest_mean.specs.Outcomes.{outcome, as_outcome}
-use Rattle.nest_runtime.specs.Jobs.{RunsJob, by_domore, RunsAlone, RunsStrict, RefusesStep, of_domore}
+use Rattle.nest_runtime.specs.Jobs.{RunsJob, RunsAlone, RunsStrict, RefusesStep}
 use Rattle.nest_report.specs.Steps.{steps_text}
 use Rattle.progress_board.specs.declared.facts.Facts.{Facts}
 use Rattle.progress_board.specs.declared.options.Options.{Options}
@@ -17,7 +17,7 @@ own_sizes : (job : Nest) → CanRun job → job ≡ job_of job.program job.openi
 own_sizes job can = λ i. record { program = job.program; opening = record { sizes = can.sizes i; words = job.opening.words } }
 
 own_job : (job : Nest) (options : Options) (history : List ℕ) (facts : Facts) → RunsJob job options history facts → job ≡ job_of job.program job.opening.words
-own_job job options history facts (by_domore can allowed engine run) = own_sizes job can
+own_job job options history facts runs = own_sizes job runs.can
 
 -- what a call answers with a run, from what the calls of that leave
 module _ (call : Call) (Runs : Nest → List ℕ → Facts → Type 0) (is_job : (job : Nest) (history : List ℕ) (facts : Facts) → Runs job history facts → RunsJob job call.options history facts) where
@@ -55,7 +55,7 @@ steps_due (Err x) job call steps facts history runs copy same h = tt
 steps_due (Ok reply) job call steps facts history runs copy same h = ran (run_due call (λ j h f. RunsStrict j call.options steps h f) (λ j h f strict. strict.alone.runs) (Ok reply) job facts history runs copy same h)
 
 own_refusal : (job : Nest) (options : Options) (steps : List ℕ) (n : ℕ) → RefusesStep job options steps n → job ≡ job_of job.program job.opening.words
-own_refusal job options steps n (of_domore can allowed engine refused) = own_sizes job can
+own_refusal job options steps n refuses = own_sizes job refuses.can
 
 -- and of a step that is refused
 pub step_due : (r : Result Answer NoMemory) (job : Nest) (call : Call) (steps : List ℕ) (n : ℕ) → RefusesStep job call.options steps n → IfOk r (λ reply. reply ≡ step_refused n)

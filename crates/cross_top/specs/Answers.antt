@@ -1,5 +1,5 @@
 -- What an action answers: the status that it ends with and the bytes that it prints.
-use Rattle.std.specs.Prelude.{◌≡◌, ◌↔◌, ℕ, ◌≤◌, ◌<◌, ℤ, Bool, true, false, if◌then◌else◌, Result, Ok, Err, List, [], ◌∷◌, ◌++◌, codes, decimal, length}
+use Rattle.std.specs.Prelude.{◌≡◌, ◌↔◌, ◌⊎◌, ℕ, ◌≤◌, ◌<◌, ℤ, Bool, true, false, if◌then◌else◌, Result, Ok, Err, List, [], ◌∷◌, ◌++◌, codes, decimal, length}
 use Rattle.nest_syntax.specs.declared.tree.Program.{Program}
 use Rattle.nest_syntax.specs.Arrays.{arrays_of, sizes_of}
 use Rattle.nest_syntax.specs.Outcome.{Ending, Done, TrappedAt, ending}
@@ -22,6 +22,7 @@ use Rattle.nest_mean.specs.Nest.{Nest}
 use Rattle.nest_mean.specs.Outcomes.{outcome}
 use Rattle.nest_mean.specs.declared.outcomes.Outcome.{Outcome}
 use Rattle.nest_mean.specs.declared.outcomes.Outcome.TheVariants as outcomes
+use Rattle.nest_runtime.specs.Opened.{IsSpeculative}
 use Rattle.nest_runtime.specs.Jobs.{RunsJob, RunsAlone, RunsStrict, RefusesStep}
 use Rattle.progress_board.specs.declared.facts.Facts.{Facts}
 use Rattle.nest_report.specs.Report.{report_text, summary_text}
@@ -189,7 +190,29 @@ Answers call input answer = AnswersCall (is_gen call.action) call input answer
 abbrev pub RefuseSameStep : Answer → Answer → Type 0
 RefuseSameStep answer other = (n : ℕ) → (answer ≡ step_refused n) ↔ (other ≡ step_refused n)
 
+-- two answers tell the same final words and steps, and may differ in the facts
+pub record DifferInFacts (call : Call) (answer other : Answer) : Type 0 where
+  pub program : Program
+  pub memory : Memory
+  pub history : List ℕ
+  pub facts : Facts
+  pub others : Facts
+  pub is : answer ≡ told call program facts history (outcomes.Done memory)
+  pub other_is : other ≡ told call program others history (outcomes.Done memory)
+
+-- the actions that run an engine
+abbrev pub runs_engine : Action → Bool
+runs_engine Alone = true
+runs_engine Replay = true
+runs_engine Big = true
+runs_engine Run = true
+runs_engine _ = false
+
+-- two answers are one; by an engine that passes barriers speculatively, but for the facts
+abbrev pub AreOne : Action → Call → Answer → Answer → Type 0
+AreOne action call answer other = (answer ≡ other) ⊎ ((runs_engine action ≡ true) × IsSpeculative call.options.engine × DifferInFacts call answer other)
+
 -- With the same steps, an input has one answer. Which step `replay` refuses isn't settled by this: its two answers have to
--- refuse the same, or none.
+-- refuse the same, or none. Nor is what a speculative engine counts.
 abbrev pub OneAnswer : Type 0
-OneAnswer = (call : Call) (input : List ℕ) (answer other : Answer) → answer.history ≡ other.history → (call.action ≡ Replay → RefuseSameStep answer other) → Answers call input answer → Answers call input other → answer ≡ other
+OneAnswer = (call : Call) (input : List ℕ) (answer other : Answer) → answer.history ≡ other.history → (call.action ≡ Replay → RefuseSameStep answer other) → Answers call input answer → Answers call input other → AreOne call.action call answer other

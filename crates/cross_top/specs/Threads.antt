@@ -1,30 +1,29 @@
 -- How a call with these words ends that may wait: it has `run` beside the actions that wait for nobody.
 use Rattle.std.specs.Prelude.{◌≡◌, ℕ, Bool, true, false, Option, Some, None, List, []}
 use Rattle.std.specs.Io.KnownBytes.{Keeps}
-use Rattle.progress_board.specs.declared.options.Engine.{Engine}
+use Rattle.progress_board.specs.Options.{IsInRange}
 use Rattle.cross_words.specs.declared.call.Action.{Action}
 use Rattle.cross_words.specs.declared.call.Action.TheVariants.{Run}
 use Rattle.cross_words.specs.declared.call.Call.{Call}
 use Rattle.cross_words.specs.Table.{Say}
 use Rattle.cross_top.specs.declared.status.Status.{Status}
 use Rattle.cross_top.specs.declared.status.Status.TheVariants as status
-use Rattle.cross_top.specs.Words.{is_domore, IsRunnable}
 use Rattle.cross_top.specs.Ends.{SourceChange, IsAnsweredFrom, EndsWith, Ends}
 
--- whether an action by an engine is run by threads: `run`, by an engine that stands
-abbrev pub is_threaded : Action → Engine → Bool
-is_threaded Run engine = is_domore engine
-is_threaded _ engine = false
+-- whether an action is run by threads
+abbrev pub is_threaded : Action → Bool
+is_threaded Run = true
+is_threaded _ = false
 
 -- what words ask for that is run by threads: the call that they say, or nothing, where they say no such call
 abbrev pub AskToRun : List (List ℕ) → Option Call → Type 0
-AskToRun words (Some call) = Say words call × (is_threaded call.action call.options.engine ≡ true)
-AskToRun words None = (call : Call) → Say words call → is_threaded call.action call.options.engine ≡ false
+AskToRun words (Some call) = Say words call × (is_threaded call.action ≡ true)
+AskToRun words None = (call : Call) → Say words call → is_threaded call.action ≡ false
 
 -- a call that is run by threads
 pub record IsThreaded (call : Call) : Type 0 where
   pub action : call.action ≡ Run
-  pub runs : IsRunnable call.options
+  pub in_range : IsInRange call.options
 
 -- By threads, with what the call answers to the bytes that were taken; or as one that waits for nobody; or for want of
 -- memory, with nothing written.

@@ -1,11 +1,11 @@
 ghost use Rattle.std.specs.Prelude.{◌≡◌, ◌++◌, true, IfOk};
 ghost use Rattle.word_store.specs.Memory.{HasLayout};
 ghost use Rattle.nest_mean.specs.Outcomes.{outcome};
+ghost use Rattle.progress_board.specs.Options.{IsInRange};
 ghost use Rattle.nest_data.specs.Sum.{written_words, sum_of};
 ghost use Rattle.nest_data.specs.Text.{array_lines};
 ghost use Rattle.nest_report.specs.Report.{report_text, summary_text};
 ghost use Rattle.cross_top.specs.Answers.{AnswersAlone, is_summary, done_text, told_steps, steps_part, ended, told};
-ghost use Rattle.cross_top.specs.Words.{IsRunnable};
 
 use crate::answers::Reply;
 use crate::status::Status;
@@ -22,7 +22,7 @@ use word_store::Words;
 
 /// The outcome of a job by its engine on one thread, by the rotation, told as the call asks.
 pub fn alone(alloc: Global, call: &Call, job: Job) -> Result<Reply, NoMemory>
-    requires { IsRunnable call.now.options }
+    requires { IsInRange call.now.options }
     ensures { IfOk result (λ reply. AnswersAlone call.now job.program job.opening.words reply) }
 {
     // The engine takes the job, and what is told goes by the copy.

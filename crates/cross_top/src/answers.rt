@@ -4,7 +4,7 @@ ghost use Rattle.nest_gen.specs.Generated.{generated};
 ghost use Rattle.cross_top.specs.Answers.{refusal, refused_answer, plain_answer, check_answer, deps_answer, gen_answer};
 ghost use Rattle.cross_top.specs.Answers.{Answers, AnswersInput, AnswersProgram, AnswersData, AnswersPlain, AnswersAlone, AnswersReplay, is_gen};
 ghost use Rattle.progress_board.specs.Options.{IsInRange};
-ghost use Rattle.cross_top.specs.Words.{IsAnswerable, IsRunnable, is_answered};
+ghost use Rattle.cross_top.specs.Words.{IsAnswerable, is_answered};
 
 use crate::alone::alone;
 use crate::refusals::reason_text;
@@ -106,7 +106,6 @@ pub fn answer_input(alloc: Global, call: &Call, input: &[u8]) -> Result<Reply, N
 }
 
 /// What a call of this action answers to an input with this program.
-#[tactic(auto, using(crate::proofs::Replies::runs_domore))]
 fn answer_program(
     alloc: Global,
     action: Action,
@@ -116,7 +115,7 @@ fn answer_program(
 ) -> Result<Reply, NoMemory>
     requires few { length input.now ≤ MOST_BYTES }
     requires in_range { IsInRange call.now.options }
-    requires answered { is_answered action call.now.options.engine ≡ true }
+    requires answered { is_answered action ≡ true }
     requires no_gen { is_gen action ≡ false }
     ensures { IfOk result (λ reply. AnswersProgram action call.now input.now checked reply) }
 {
@@ -172,7 +171,7 @@ fn plain_of(alloc: Global, input: &[u8], checked: Checked) -> Result<Reply, NoMe
 /// What `alone` or `big` answers to an input with this program.
 fn alone_of(alloc: Global, call: &Call, input: &[u8], checked: Checked) -> Result<Reply, NoMemory>
     requires few { length input.now ≤ MOST_BYTES }
-    requires runs { IsRunnable call.now.options }
+    requires in_range { IsInRange call.now.options }
     ensures { IfOk result (λ reply. AnswersData (AnswersAlone call.now checked) input.now checked reply) }
 {
     match read_words(alloc, input, &checked) {
@@ -185,7 +184,7 @@ fn alone_of(alloc: Global, call: &Call, input: &[u8], checked: Checked) -> Resul
 /// What `replay` answers to an input with this program.
 fn replay_of(alloc: Global, call: &Call, input: &[u8], checked: Checked) -> Result<Reply, NoMemory>
     requires few { length input.now ≤ MOST_BYTES }
-    requires runnable { IsRunnable call.now.options }
+    requires in_range { IsInRange call.now.options }
     ensures { IfOk result (λ reply. AnswersData (AnswersReplay call.now input.now checked) input.now checked reply) }
 {
     match read_words(alloc, input, &checked) {

@@ -3,8 +3,8 @@ ghost use Rattle.cross_top.specs.Answers.{OneAnswer};
 use nest_input::one_saying;
 use nest_runtime::facts_are_due;
 
-/// A law: with the same steps an input has one answer. For an action that runs no engine the bytes that are due are so a
-/// function of words and input.
+/// A law: with the same steps an input has one answer, by `speccross` and `barrier` but for the facts. For an action that
+/// runs no engine the bytes that are due are so a function of words and input.
 pub fn one_answer()
     ensures { OneAnswer }
 {

@@ -1,7 +1,8 @@
 //! What the program `cross` does with its command words and an input.
 //!
 //! In come words, a source and a sink, out come the bytes that are due and a status. `cross_quiet` is the top call;
-//! `Ends` of specs/Ends says what it does, and `one_answer` that with the same steps of an engine it is one.
+//! `Ends` of specs/Ends says what it does, and `one_answer` that with the same steps of an engine it is one, but for what a
+//! speculative engine counts.
 #![tactic(auto)]
 
 mod alone;

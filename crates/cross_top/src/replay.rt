@@ -1,7 +1,7 @@
 ghost use Rattle.std.specs.Prelude.{◌≡◌, ◌≤◌, ◌++◌, IfOk, decimal, length};
 ghost use Rattle.nest_io.specs.declared.transfer.TheConstants.{MOST_BYTES};
+ghost use Rattle.progress_board.specs.Options.{IsInRange};
 ghost use Rattle.cross_top.specs.Answers.{AnswersReplay, AnswersSteps, refusal, job_of};
-ghost use Rattle.cross_top.specs.Words.{IsRunnable};
 
 use crate::alone::told;
 use crate::answers::{Reply, refusal};
@@ -20,7 +20,7 @@ use step_words::StepsRefused;
 /// or the first of its step words that names no actor, or of its steps that isn't enabled.
 pub fn replay(alloc: Global, call: &Call, input: &[u8], job: Job) -> Result<Reply, NoMemory>
     requires few { length input.now ≤ MOST_BYTES }
-    requires runnable { IsRunnable call.now.options }
+    requires in_range { IsInRange call.now.options }
     ensures { IfOk result (λ reply. AnswersReplay call.now input.now job.program job.opening.words reply) }
 {
     match read_steps(alloc, input, call.options.workers) {
@@ -32,7 +32,7 @@ pub fn replay(alloc: Global, call: &Call, input: &[u8], job: Job) -> Result<Repl
 
 /// The same of the steps.
 fn replay_steps(alloc: Global, call: &Call, job: Job, steps: &[u8]) -> Result<Reply, NoMemory>
-    requires { IsRunnable call.now.options }
+    requires { IsInRange call.now.options }
     ensures { IfOk result (λ reply. AnswersSteps call.now (job_of job.program job.opening.words) steps.now reply) }
 {
     // The engine takes the job, and what is told goes by the copy.

@@ -5,7 +5,6 @@ ghost use Rattle.cross_top.specs.Threads as threads;
 
 use cross_words::{Action, Call, WordsRefused, calls_are_in_range, one_call, read_words};
 use nest_syntax::NoMemory;
-use progress_board::Engine;
 use std::alloc::Global;
 
 /// Whether an action reads an input.
@@ -19,23 +18,14 @@ pub fn reads_input(action: Action) -> bool
     }
 }
 
-/// Whether an action by an engine is answered: `domore` is the only one that stands.
-fn is_answered(action: Action, engine: Engine) -> bool
-    ensures { result ≡ asked.is_answered action engine }
+/// Whether an action is answered.
+fn is_answered(action: Action) -> bool
+    ensures { result ≡ asked.is_answered action }
 {
     match action {
         Action::Plain | Action::Check | Action::Deps | Action::Gen => true,
-        Action::Alone | Action::Replay | Action::Big => is_domore(engine),
+        Action::Alone | Action::Replay | Action::Big => true,
         Action::Profile | Action::Run => false,
-    }
-}
-
-fn is_domore(engine: Engine) -> bool
-    ensures { result ≡ asked.is_domore engine }
-{
-    match engine {
-        Engine::Domore => true,
-        Engine::Speccross | Engine::Barrier => false,
     }
 }
 
@@ -48,7 +38,7 @@ pub fn asked(alloc: Global, words: &[String]) -> Result<Option<Call>, NoMemory>
     calls_are_in_range();
     match read_words(alloc, words) {
         Ok(call) => {
-            if is_answered(call.action, call.options.engine) {
+            if is_answered(call.action) {
                 Ok(Some(call))
             } else {
                 Ok(None)
@@ -59,15 +49,11 @@ pub fn asked(alloc: Global, words: &[String]) -> Result<Option<Call>, NoMemory>
     }
 }
 
-/// Whether an action by an engine is run by threads.
-fn is_threaded(action: Action, engine: Engine) -> bool
-    ensures { result ≡ threads.is_threaded action engine }
+/// Whether an action is run by threads.
+fn is_threaded(action: Action) -> bool
+    ensures { result ≡ threads.is_threaded action }
 {
-    match action {
-        Action::Run => is_domore(engine),
-        Action::Plain | Action::Check | Action::Deps | Action::Gen => false,
-        Action::Alone | Action::Big | Action::Replay | Action::Profile => false,
-    }
+    matches!(action, Action::Run)
 }
 
 /// The call that the words ask for, where it is one that is run by threads.
@@ -80,7 +66,7 @@ pub fn asked_to_run(alloc: Global, words: &[String]) -> Result<Option<Call>, NoM
     calls_are_in_range();
     match read_words(alloc, words) {
         Ok(call) => {
-            if is_threaded(call.action, call.options.engine) {
+            if is_threaded(call.action) {
                 Ok(Some(call))
             } else {
                 Ok(None)

@@ -1,5 +1,6 @@
 -- That an engine may cross threads. What is recursive, or holds what is, gets no such fact by itself, and a search for the whole
 -- runs out of steps: so it is said type by type.
+use denote.RattleType.{RattleType}
 use denote.Param.Send.{IsSend, sendable, view_send}
 use denote.Hole.{as_row}
 use denote.Struct.Field.{u32-field}
@@ -38,6 +39,21 @@ use Rattle.addr_slice.proofs.claim_set.Claims.TheSendSync as claims
 use Rattle.shadow_memory.proofs.shadow.Shadow.TheSendSync as shadow
 use Rattle.nest_syntax.proofs.place.Place.TheSendSync as place
 use Rattle.progress_board.proofs.options.Options.TheSendSync as options
+use Rattle.progress_board.proofs.facts.RollCause.TheSendSync as cause
+use Rattle.epoch_plan.proofs.tasks.Seen.TheSendSync as seen
+use Rattle.epoch_plan.specs.contracts.tasks.Seen.{the_row as seen_row}
+use Rattle.spec_checker.proofs.walk.Checker.TheSendSync as checker
+use Rattle.checkpoint.proofs.marked.Checkpoint.TheSendSync as checkpoint
+use Rattle.range_sign.specs.declared.signature.Signature.{Ghosts}
+use Rattle.spec_core.specs.contracts.seat.Seat as bench
+use Rattle.spec_core.proofs.seat.Seat.TheSendSync as bench_send
+use Rattle.spec_core.proofs.epochs.Epochs.TheSendSync as epochs
+use Rattle.spec_core.proofs.tally.Tally.TheSendSync as spec_tally
+use Rattle.spec_core.specs.contracts.desk.Desk as spec_desk
+use Rattle.spec_core.specs.contracts.plan.Plan as spec_plan
+use Rattle.spec_core.specs.contracts.table.Table as spec_table
+use Rattle.spec_core.specs.contracts.spec.Spec as spec
+use Rattle.spec_core.specs.contracts.spec.Spec.TheInside as spec_inside
 use Rattle.domore_core.specs.contracts.seat.Seat.{the_row as seat_row}
 use Rattle.domore_core.proofs.seat.Seat.TheSendSync as seat
 use Rattle.domore_core.proofs.tally.Tally.TheSendSync as tally
@@ -101,3 +117,21 @@ table_send =
 
 pub domore_send : IsSend domore.the_row
 domore_send = view_send inside.the_row _ _ _ _ (declared_send inside.the_type (plan_send, (table_send, tt)))
+
+-- the engine that passes barriers speculatively
+spec_desk_send : IsSend spec_desk.the_row
+spec_desk_send = declared_send spec_desk.the_type (cursor_send, (search (sendable, crosses, place.the_send) depth 20, (epochs.the_send, (search sendable depth 20, (spec_tally.the_send, tt)))))
+
+spec_plan_send : IsSend spec_plan.the_row
+spec_plan_send = declared_send spec_plan.the_type (job_send, (options.the_send, (code.the_send, (split.the_send, (search (sendable, crosses) depth 20, (search (sendable, crosses) depth 20, tt))))))
+
+module _ (G : RattleType) (ghosts : Ghosts G.Denot) (sends : IsSend G) where
+  spec_table_send : IsSend (spec_table.the_row G ghosts)
+  spec_table_send =
+      let seats = Vec-send (bench.the_row G ghosts) (bench_send.the_send G ghosts sends) in
+      let seen = Vec-send seen_row seen.the_send in
+      declared_send (spec_table.the_type G ghosts)
+      (words.the_send, (checkpoint.the_send, (spec_desk_send, (search sendable depth 20, (seats, (seen, (checker.the_send, (search (sendable, crosses, cause.the_send) depth 20, (search (sendable, crosses, place.the_send) depth 20, (search sendable depth 20, tt))))))))))
+
+  pub spec_send : IsSend (spec.the_row G ghosts)
+  spec_send = view_send (spec_inside.the_row G ghosts) _ _ _ _ (declared_send (spec_inside.the_type G ghosts) (spec_plan_send, (spec_table_send, tt)))

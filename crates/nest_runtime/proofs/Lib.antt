@@ -1,3 +1,4 @@
 pub mod Driven
 pub mod Due
+pub mod Speculation
 pub mod Crossing

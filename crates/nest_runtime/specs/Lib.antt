@@ -1,2 +1,4 @@
 pub mod Ran
+pub mod Opened
 pub mod Jobs
+pub mod Speculation

@@ -1,17 +1,15 @@
 ghost use Rattle.std.specs.Prelude.{◌≡◌, IfOk};
 ghost use Rattle.nest_mean.specs.Outcomes.{outcome};
 ghost use Rattle.progress_board.specs.Options.{IsInRange};
-ghost use Rattle.domore_core.specs.Engine.{step, is_finished, ending_of, words_of, facts_of};
-ghost use Rattle.nest_runtime.specs.Ran.{IsRun};
 ghost use Rattle.nest_runtime.specs.Jobs.{RunsJob};
 
+use crate::laws::runs_end_as_job;
+use crate::opened::Opened;
 use crate::ran::Ran;
-use crate::runs::drive_crew;
 use cross_crew::Gate;
-use domore_core::{Domore, histories_end_as_job};
 use nest_mean::Job;
 use nest_syntax::NoMemory;
-use progress_board::{Engine, Options};
+use progress_board::Options;
 use std::alloc::Global;
 use std::sync::Wait;
 use std::thread::Threads;
@@ -26,26 +24,13 @@ pub fn run_job<R: Threads + Wait + Sync, G: Gate>(
     options: Options,
     gate: &G,
 ) -> Result<Ran, NoMemory>
-    requires allowed { IsInRange options }
-    requires engine { options.engine ≡ Engine.Domore }
+    requires { IsInRange options }
     ensures outcome { IfOk result (λ ran. ran.outcome ≡ outcome job) }
     ensures run { IfOk result (λ ran. RunsJob job options ran.history.items ran.facts) }
 {
-    histories_end_as_job();
+    runs_end_as_job();
     // It tells that the job can be run.
     let _words = job.words();
-    let machine = Domore::open(alloc, job, options)?;
-    crew_domore(rt, alloc, machine, gate)
-}
-
-// `drive_crew`, of a machine that is known to cross threads.
-fn crew_domore<R: Threads + Wait + Sync, G: Gate>(
-    rt: &R,
-    alloc: Global,
-    machine: Domore,
-    gate: &G,
-) -> Result<Ran, NoMemory>
-    ensures { IfOk result (λ ran. IsRun step is_finished ending_of words_of facts_of machine ran.outcome ran.facts ran.history.items) }
-{
-    drive_crew(rt, alloc, machine, gate)
+    let machine = Opened::open(alloc, job, options)?;
+    machine.crew(rt, alloc, gate)
 }

@@ -6,7 +6,7 @@ use Rattle.cross_top.proofs.words.asked.Goals as goal
 pub returns-else-is_answered-clause-asked : goal.returns-else-is_answered-clause-asked
 returns-else-is_answered-clause-asked c other says =
     let same = c.one_call.ensures (map string_bytes c.args.words.now) other c.in-Ok.call says c.in-Ok.ensures in
-    subst (λ (x : Call). is_answered x.action x.options.engine ≡ false) (sym same) (sym c.if-is_answered.ensures)
+    subst (λ (x : Call). is_answered x.action ≡ false) (sym same) (sym c.if-is_answered.ensures)
 
 pub returns-in-Err-Words-clause-asked : goal.returns-in-Err-Words-clause-asked
 returns-in-Err-Words-clause-asked c other says = absurd (c.in-Err-Words.ensures c.in-Err-Words.field-0-is other says)
