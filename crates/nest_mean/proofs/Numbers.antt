@@ -54,10 +54,10 @@ chosen-bodies [] other = refl
 chosen-bodies (arm ∷ arms) other = ap (λ bs. bodies_in_arm arm ++ bs) (chosen-bodies arms other) ∙ sym (append_assoc (bodies_in_arm arm) (flat_map bodies_in_arm arms) other.bodies)
 
 pub region_bodies : (l : Loop) → bodies_in_region l ≡ bodies_in_items l.body
-region_bodies l = ap (λ (t : Item). t.bodies) (region-is [] [] l) ∙ in_order-bodies (item_of bare) l.body
+region_bodies l = ap (λ (t : Item). t.bodies) (region-is bare l) ∙ in_order-bodies (item_of bare) l.body
 
 pub arm_bodies : (arm : Arm) → bodies_in_arm arm ≡ bodies_in_items arm.body
-arm_bodies arm = ap (λ (t : Tested). t.bodies) (tested_of-is [] [] arm) ∙ in_order-bodies (item_of bare) arm.body
+arm_bodies arm = ap (λ (t : Tested). t.bodies) (tested_of-is bare arm) ∙ in_order-bodies (item_of bare) arm.body
 
 pub declare_bodies : (line : Line) (name : ℕ) (e : Expr) → bodies_in_item (stmt.Declare line name e) ≡ []
 declare_bodies line name e = ap (λ (t : Item). t.bodies) (item-declare bare line name e)
@@ -69,7 +69,7 @@ pub write_bodies : (line : Line) (name : ℕ) (place : Expr) (o : Op) (e : Expr)
 write_bodies line name place o e = ap (λ (t : Item). t.bodies) (item-write bare line name place o e)
 
 pub loop_bodies : (l : Loop) → bodies_in_item (stmt.Loop l) ≡ l.body ∷ []
-loop_bodies l = ap (λ (t : Item). t.bodies) (item-loop bare l ∙ invocation-is [] [] l)
+loop_bodies l = ap (λ (t : Item). t.bodies) (item-loop bare l ∙ invocation-is bare l)
 
 pub if_bodies : (arms : List Arm) (other : List Stmt) → bodies_in_item (stmt.If arms other) ≡ flat_map bodies_in_arm arms ++ bodies_in_items other
 if_bodies arms other = ap (λ (t : Item). t.bodies) (item-if bare arms other ∙ ap (λ ts. chosen ts (in_order (map (λ (p : Stmt × Item). p.1) (map (λ x. (x, item_of bare x)) other)))) (map_second (tested_of bare) arms)

@@ -1,19 +1,20 @@
 -- The outcome of a nest, from how its regions are carried out.
-use Rattle.std.proofs.Common.{◌≡◌, ℕ, suc, ◌+◌, ◌*◌, ◌^◌, ◌<◌, ℤ, Result, Ok, Err, List, map, length, refl, sym, ap, ◌∙◌, subst, arith}
+use Rattle.std.proofs.Common.{◌≡◌, ℕ, suc, ◌*◌, ℤ, Ok, Err, List, map, length, refl, sym, ap, ◌∙◌, subst, arith}
 use Rattle.nest_syntax.specs.declared.tree.Loop.{Loop}
-use Rattle.nest_syntax.specs.declared.tree.Program.{Program}
-use Rattle.nest_syntax.specs.Arrays.{Array, arrays_of, sizes_of}
+use Rattle.nest_syntax.specs.Arrays.{sizes_of}
 use Rattle.nest_syntax.specs.Turn.{Turn}
 use Rattle.nest_syntax.specs.Reads.{Ended, Completed, Stopped, on_words}
 use Rattle.nest_syntax.specs.Course.{Course, Item, in_order, region_of, bodies_of, course_of, opening_scalars, End, Failed, Scalar, Drain, Iterate, Close}
 use Rattle.nest_syntax.specs.Outcome.{Done, turn_in, behind, ending_from, ending}
 use Rattle.word_store.specs.Memory.{Memory}
+use Rattle.nest_mean.specs.declared.run.Run.{Run}
 use Rattle.nest_syntax.specs.declared.place.Place.{Place}
 use Rattle.nest_mean.specs.declared.outcomes.Outcome.TheVariants as outcomes
 use Rattle.nest_mean.specs.Nest.{Nest, CanRun}
+use Rattle.nest_mean.specs.Bound.{most_iterations}
 use Rattle.nest_mean.specs.Outcomes.{as_outcome, outcome}
 use Rattle.nest_mean.specs.Finish.{Finish, trapped_with, finish_behind, finish_from}
-use Rattle.nest_mean.specs.CourseParts.{Stand, Passes, setting_on}
+use Rattle.nest_mean.specs.CourseParts.{IsReady, finish_of, Stand, Passes, setting_in}
 use Rattle.nest_syntax.proofs.Shapes.{regions_same}
 use Rattle.nest_mean.proofs.Sameness.{stand_all}
 
@@ -30,52 +31,34 @@ finish-ending sizes turn (Iterate body scalars rest) k words = by_end (on_words 
     by_end (Completed w) same = same w
     by_end (Stopped cause line w) same = refl
 
-module _ (nest : Nest) (runs : CanRun nest) where
+module _ (nest : Nest) (r : Run) (scalars : r.scalars.present ≡ opening_scalars nest.program) (number : r.number ≡ 0) (words : r.words ≡ nest.opening) (listed : List Loop) (listed_is : listed ≡ nest.program.regions) where
   abbrev regions : Item
-  regions = in_order (map (region_of (setting_on nest.program.decls nest.opening.words)) nest.program.regions)
+  regions = in_order (map (region_of (setting_in nest)) listed)
 
   bodies_are : bodies_of nest.program ≡ regions.bodies
-  bodies_are = sym (regions_same (setting_on nest.program.decls nest.opening.words) nest.program.regions)
+  bodies_are = sym (ap (λ ls. (in_order (map (region_of (setting_in nest)) ls)).bodies) listed_is ∙ regions_same (setting_in nest) nest.program.regions)
 
-  pub regions_room : (n : ℕ) → n ≡ 0 → n + 281474976710656 * length regions.bodies < 2 ^ 64
-  regions_room n none = let same : length (bodies_of nest.program) ≡ length regions.bodies = ap length bodies_are in omega (arith, none, same, runs.few_bodies)
+  pub is_ready : CanRun nest → IsReady nest (most_iterations * length regions.bodies) r
+  is_ready runs = let same : length (bodies_of nest.program) ≡ length regions.bodies = ap length bodies_are in record {
+    sizes = ap (λ (w : Memory). w.sizes) words ∙ runs.sizes;
+    room = omega (arith, number, same, runs.few_bodies);
+  }
 
   bodies_stand : Stand (bodies_of nest.program) 0 regions.bodies
   bodies_stand = subst (λ bodies. Stand (bodies_of nest.program) 0 bodies) bodies_are (stand_all (bodies_of nest.program))
 
-  module _ (s' : List ℤ) (n' : ℕ) (m' : Memory) where
-    abbrev arrays : List Array
-    arrays = arrays_of nest.program.decls
+  ends_in : (finish : Finish) → finish_of (setting_in nest) (bodies_of nest.program) (regions.events 0 r.scalars.present (λ after. End)) r ≡ finish → ending nest.program nest.opening.words ≡ finish.ending
+  ends_in finish is =
+      sym (finish-ending (sizes_of (setting_in nest).arrays) (turn_in (setting_in nest).arrays (bodies_of nest.program)) (course_of nest.program nest.opening.words) 0 nest.opening.words)
+      ∙ ap (λ ls. (finish_of (setting_in nest) (bodies_of nest.program) ((in_order (map (region_of (setting_in nest)) ls)).events 0 (opening_scalars nest.program) (λ after. End)) (record r { scalars = record r.scalars { present = opening_scalars nest.program }; number = 0; words = nest.opening })).ending) (sym listed_is)
+      ∙ ap (λ s. (finish_of (setting_in nest) (bodies_of nest.program) (regions.events 0 s (λ after. End)) (record r { number = 0; words = nest.opening })).ending) (sym scalars)
+      ∙ ap (λ n. (finish_of (setting_in nest) (bodies_of nest.program) (regions.events 0 r.scalars.present (λ after. End)) (record r { number = n; words = nest.opening })).ending) (sym number)
+      ∙ ap (λ w. (finish_of (setting_in nest) (bodies_of nest.program) (regions.events 0 r.scalars.present (λ after. End)) (record r { words = w })).ending) (sym words) ∙ ap (λ (f : Finish). f.ending) is
 
-    abbrev RegionsPass : Result (Unit {0}) Place → Type 0
-    RegionsPass result = Passes (arrays_of nest.program.decls) regions 281474976710656 result (opening_scalars nest.program) 0 nest.opening s' n' m'
+  pub run_is_done : (r' : Run) → Passes (setting_in nest) regions most_iterations (Ok tt) r r' → outcomes.Done r'.words ≡ outcome nest
+  run_is_done r' passed =
+      ap (λ sizes. outcomes.Done (record { sizes = sizes; words = r'.words.words })) (passed.sizes ∙ ap (λ (w : Memory). w.sizes) words)
+      ∙ ap (as_outcome nest.opening.sizes) (sym (ends_in (record { ending = Done r'.words.words; words = r'.words.words }) (passed.same (bodies_of nest.program) 0 bodies_stand (λ after. End))))
 
-    ends_in : (finish : Finish) → finish_from (sizes_of arrays) (turn_in arrays (bodies_of nest.program)) (course_of nest.program nest.opening.words) 0 nest.opening.words ≡ finish → ending nest.program nest.opening.words ≡ finish.ending
-    ends_in finish is = sym (finish-ending (sizes_of arrays) (turn_in arrays (bodies_of nest.program)) (course_of nest.program nest.opening.words) 0 nest.opening.words) ∙ ap (λ (f : Finish). f.ending) is
-
-    pub run_is_done : RegionsPass (Ok tt) → outcomes.Done m' ≡ outcome nest
-    run_is_done passed =
-        ap (λ sizes. outcomes.Done (record { sizes = sizes; words = m'.words })) passed.sizes
-        ∙ ap (as_outcome nest.opening.sizes) (sym (ends_in (record { ending = Done m'.words; words = m'.words }) (passed.same (bodies_of nest.program) 0 bodies_stand (λ after. End))))
-
-    pub run_traps : (place : Place) → RegionsPass (Err place) → outcomes.Trapped place ≡ outcome nest
-    run_traps place passed = ap (as_outcome nest.opening.sizes) (sym (ends_in (trapped_with place m'.words) (passed.same (bodies_of nest.program) 0 bodies_stand (λ after. End))))
-
-  -- the same, of what a caller has at hand
-  pub regions_given : (program : Program) (opening m : Memory) (s : List ℤ) (listed : List Loop) (result : Result (Unit {0}) Place) (n : ℕ) (s' : List ℤ) (n' : ℕ) (m' : Memory)
-      → program ≡ nest.program → opening ≡ nest.opening → m ≡ nest.opening → s ≡ opening_scalars program → listed ≡ program.regions → n ≡ 0
-      → Passes (arrays_of program.decls) (in_order (map (region_of (setting_on program.decls opening.words)) listed)) 281474976710656 result s n m s' n' m' → RegionsPass s' n' m' result
-  regions_given program opening m s listed result n s' n' m' program_is opening_is words_are scalars_are regions_are none passed =
-      subst (λ (p : Program). Passes (arrays_of p.decls) (in_order (map (region_of (setting_on p.decls nest.opening.words)) p.regions)) 281474976710656 result (opening_scalars p) 0 nest.opening s' n' m') program_is
-      (subst (λ r. Passes (arrays_of program.decls) (in_order (map (region_of (setting_on program.decls nest.opening.words)) r)) 281474976710656 result (opening_scalars program) 0 nest.opening s' n' m') regions_are
-      (subst (λ (o : Memory). Passes (arrays_of program.decls) (in_order (map (region_of (setting_on program.decls o.words)) listed)) 281474976710656 result (opening_scalars program) 0 nest.opening s' n' m') opening_is
-      (subst (λ (w : Memory). Passes (arrays_of program.decls) (in_order (map (region_of (setting_on program.decls opening.words)) listed)) 281474976710656 result (opening_scalars program) 0 w s' n' m') words_are
-      (subst (λ t. Passes (arrays_of program.decls) (in_order (map (region_of (setting_on program.decls opening.words)) listed)) 281474976710656 result t 0 m s' n' m') scalars_are
-      (subst (λ k. Passes (arrays_of program.decls) (in_order (map (region_of (setting_on program.decls opening.words)) listed)) 281474976710656 result s k m s' n' m') none passed)))))
-
-  pub room_given : (program : Program) (opening : Memory) (listed : List Loop) → program ≡ nest.program → opening ≡ nest.opening → listed ≡ program.regions
-      → 0 + 281474976710656 * length (in_order (map (region_of (setting_on program.decls opening.words)) listed)).bodies < 2 ^ 64
-  room_given program opening listed program_is opening_is regions_are =
-      subst (λ (p : Program). 0 + 281474976710656 * length (in_order (map (region_of (setting_on p.decls opening.words)) listed)).bodies < 2 ^ 64) (sym program_is)
-      (subst (λ r. 0 + 281474976710656 * length (in_order (map (region_of (setting_on nest.program.decls opening.words)) r)).bodies < 2 ^ 64) (ap (λ (p : Program). p.regions) (sym program_is) ∙ sym regions_are)
-      (subst (λ (o : Memory). 0 + 281474976710656 * length (in_order (map (region_of (setting_on nest.program.decls o.words)) nest.program.regions)).bodies < 2 ^ 64) (sym opening_is) (regions_room 0 refl)))
+  pub run_traps : (place : Place) (r' : Run) → Passes (setting_in nest) regions most_iterations (Err place) r r' → outcomes.Trapped place ≡ outcome nest
+  run_traps place r' passed = ap (as_outcome nest.opening.sizes) (sym (ends_in (trapped_with place r'.words.words) (passed.same (bodies_of nest.program) 0 bodies_stand (λ after. End))))

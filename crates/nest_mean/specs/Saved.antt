@@ -3,6 +3,11 @@ use Rattle.std.specs.Prelude.{◌≡◌, ℕ, ◌<◌, ℤ, true, List, [], ◌�
 use Rattle.nest_syntax.specs.Value.{scalar_at, with_scalar}
 use Rattle.nest_syntax.specs.Among.{is_among}
 
+-- the scalars of a run, and those that were put aside
+pub record SavedScalars : Type 0 where
+  pub present : List ℤ
+  pub aside : List ℤ
+
 -- the second scalars with those of these names taken over from the first
 abbrev pub taken_over : List ℕ → List ℤ → List ℤ → List ℤ
 taken_over [] source target = target

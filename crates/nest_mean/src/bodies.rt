@@ -14,6 +14,7 @@ ghost use Rattle.nest_syntax.specs.Among.{is_among};
 ghost use Rattle.nest_syntax.specs.Locals.{locals_of};
 ghost use Rattle.word_store.specs.Memory.{HasLayout};
 ghost use Rattle.nest_mean.specs.NamesChanged.{names_changed, changed, changed_in_arm, changed_in_loop};
+ghost use Rattle.nest_mean.specs.Added.{HasNames};
 ghost use Rattle.nest_mean.specs.TurnRun.{ended};
 ghost use Rattle.nest_mean.specs.TurnParts.{Runs, RunsArms, went_on_with, at_line, wrote};
 
@@ -89,7 +90,7 @@ pub(crate) fn run_body(
     words: &mut Words,
     checked: &Checked,
 ) -> Result<(), TurnTrap>
-    requires locals { IfSome locals (λ list. (name : ℕ) → is_among list.now name ≡ is_among (locals_of body.now) name) }
+    requires locals { IfSome locals (λ list. HasNames list.now (locals_of body.now)) }
     requires sizes { HasLayout words.old checked.now.decls }
     ensures turn { on_words (sizes_of (arrays_of checked.now.decls)) (turn_of (arrays_of checked.now.decls) body.now scalars.old) words.old.words
         ≡ ended result words.new.words }

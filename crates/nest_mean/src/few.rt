@@ -1,10 +1,10 @@
 //! The names that an invocation changes, and the locals of a body, each once.
-ghost use Rattle.std.specs.Prelude.{◌≡◌, ℕ, [], ◌∷◌, map, if◌then◌else◌, IfSome, OnOk};
+ghost use Rattle.std.specs.Prelude.{◌≡◌, ℕ, List, [], ◌∷◌, map, if◌then◌else◌, IfSome, OnOk};
 ghost use Rattle.std.specs.List.{concat};
 ghost use Rattle.nest_syntax.specs.Among.{is_among};
 ghost use Rattle.nest_syntax.specs.Locals.{given, given_in_arm, given_in_loop, names_given, locals_of};
 ghost use Rattle.nest_mean.specs.NamesChanged.{changed_in_loop};
-ghost use Rattle.nest_mean.specs.Added.{Adds};
+ghost use Rattle.nest_mean.specs.Added.{Adds, HasNames};
 
 use arrayvec::{ArrayVec, CapacityError};
 use nest_syntax::{Arm, Loop, Stmt};
@@ -14,7 +14,7 @@ pub(crate) type FewNames = ArrayVec<u32, 16>;
 
 /// The names that an invocation changes, each once. None comes where there are more than 16, as in no checked program.
 pub(crate) fn few_changed(invoked: &Loop) -> Option<FewNames>
-    ensures { IfSome result (λ names. (name : ℕ) → is_among names.items name ≡ is_among (changed_in_loop invoked.now) name) }
+    ensures { IfSome result (λ names. HasNames names.items (changed_in_loop invoked.now)) }
 {
     let mut names = ArrayVec::new();
     match add_loop(invoked, true, &mut names) {
@@ -25,12 +25,22 @@ pub(crate) fn few_changed(invoked: &Loop) -> Option<FewNames>
 
 /// The locals of a body, each once. None comes where there are more than 16, as in no checked program.
 pub(crate) fn few_locals(body: &[Stmt]) -> Option<FewNames>
-    ensures { IfSome result (λ names. (name : ℕ) → is_among names.items name ≡ is_among (locals_of body.now) name) }
+    ensures { IfSome result (λ names. HasNames names.items (locals_of body.now)) }
 {
     let mut names = ArrayVec::new();
     match add_block(body, false, &mut names) {
         Ok(()) => Some(names),
         Err(_) => None,
+    }
+}
+
+/// The list as a slice, where there is one.
+pub(crate) fn listed(names: &Option<FewNames>) -> Option<&[u32]>
+    ensures { (all : List ℕ) → IfSome names.now (λ few. HasNames few.items all) → IfSome result (λ list. HasNames list.now all) }
+{
+    match names {
+        Some(names) => Some(names.as_slice()),
+        None => None,
     }
 }
 

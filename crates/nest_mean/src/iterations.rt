@@ -1,138 +1,64 @@
-ghost use Rattle.std.specs.Prelude.{◌≡◌, ◌+◌, ◌<◌, ◌^◌, ℕ, [], ◌∷◌, length, FitsSigned, IfSome};
+ghost use Rattle.std.specs.Prelude.{◌≡◌, ◌+◌, ◌<◌, ◌^◌, ℕ, [], ◌∷◌, FitsSigned, IfSome};
 ghost use Rattle.std.specs.Int.{w64};
 ghost use Rattle.nest_syntax.specs.Words.{variable};
-ghost use Rattle.nest_syntax.specs.Arrays.{arrays_of};
-ghost use Rattle.nest_syntax.specs.Among.{is_among};
 ghost use Rattle.nest_syntax.specs.Locals.{locals_of};
-ghost use Rattle.word_store.specs.Memory.{HasLayout};
-ghost use Rattle.nest_mean.specs.NamesChanged.{names_changed, changed_in_loop};
-ghost use Rattle.nest_mean.specs.Saved.{AreSaved};
-ghost use Rattle.nest_mean.specs.CourseParts.{Iterates, IteratesAll, at_iteration, next_number};
+ghost use Rattle.nest_mean.specs.NamesChanged.{names_changed};
+ghost use Rattle.nest_mean.specs.Added.{HasNames};
+ghost use Rattle.nest_mean.specs.CourseParts.{IsReady, Iterates, IteratesAll, setting_in, at_iteration, next_number};
 
 use crate::bodies::{TurnTrap, run_body};
-use crate::few::{few_changed, few_locals};
-use crate::run_scalars::RunScalars;
-use crate::saved::{put_aside, put_back};
-use crate::values::Scalars;
-use nest_check::Checked;
+use crate::few::{FewNames, few_changed, few_locals, listed};
+use crate::jobs::Job;
+use crate::run::Run;
 use nest_syntax::{Loop, Place, Stmt};
 use std::slice;
-use word_store::{Words, value_in_turn};
+use word_store::value_in_turn;
 
 /// The iterations of an invocation whose bounds are known. Behind each the scalars are what they were.
 pub(crate) fn run_iterations(
     invoked: &Loop,
     low: i64,
     count: u64,
-    scalars: &mut RunScalars,
-    number: &mut u64,
-    words: &mut Words,
-    checked: &Checked,
+    run: &mut Run,
+    job: &Job,
 ) -> Result<(), Place>
-    requires sizes { HasLayout words.old checked.now.decls }
+    requires ready { IsReady job.now count run.old }
     requires reach { (k : ℕ) → k < count → FitsSigned w64 (variable low invoked.now.step k) }
-    requires room { number.old + count < 2 ^ 64 }
-    ensures { IteratesAll (arrays_of checked.now.decls) invoked.now low count result scalars.old number.old words.old scalars.new number.new words.new }
+    ensures { IteratesAll (setting_in job.now) invoked.now low count result run.old run.new }
 {
-    put_aside(invoked, &scalars.present, &mut scalars.aside);
-    let few = few_changed(invoked);
-    let names = match &few {
-        Some(names) => Some(names.as_slice()),
-        None => None,
-    };
-    let few_locals = few_locals(invoked.body.as_slice());
-    let locals = match &few_locals {
-        Some(locals) => Some(locals.as_slice()),
-        None => None,
-    };
-    iterate(
-        invoked,
-        names,
-        locals,
-        low,
-        count,
-        &mut scalars.present,
-        &scalars.aside,
-        number,
-        words,
-        checked,
-    )
-}
-
-// The iterations, once the scalars that they change are saved.
-fn iterate(
-    invoked: &Loop,
-    names: Option<&[u32]>,
-    locals: Option<&[u32]>,
-    low: i64,
-    count: u64,
-    scalars: &mut Scalars,
-    saved: &Scalars,
-    number: &mut u64,
-    words: &mut Words,
-    checked: &Checked,
-) -> Result<(), Place>
-    requires sizes { HasLayout words.old checked.now.decls }
-    requires names { IfSome names (λ list. (name : ℕ) → is_among list.now name ≡ is_among (changed_in_loop invoked.now) name) }
-    requires locals { IfSome locals (λ list. (name : ℕ) → is_among list.now name ≡ is_among (locals_of invoked.now.body) name) }
-    requires saved { AreSaved (changed_in_loop invoked.now) scalars.old saved.now }
-    requires reach { (k : ℕ) → k < count → FitsSigned w64 (variable low invoked.now.step k) }
-    requires room { number.old + count < 2 ^ 64 }
-    ensures all { IteratesAll (arrays_of checked.now.decls) invoked.now low count result scalars.old number.old words.old scalars.new number.new words.new }
-    ensures names { length scalars.new ≡ length scalars.old }
-{
+    let names = few_changed(invoked);
+    let locals = few_locals(invoked.body.as_slice());
+    run.scalars.put_aside(invoked);
     for k in 0..count {
-        scalars.set(invoked.name, value_in_turn(low, invoked.step, k));
-        run_iteration(
-            invoked.body.as_slice(),
-            locals,
-            scalars,
-            number,
-            words,
-            checked,
-        )?;
-        put_back(invoked, names, saved, scalars);
+        let value = value_in_turn(low, invoked.step, k);
+        run.scalars.set(invoked.name, value);
+        run_iteration(invoked.body.as_slice(), &locals, run, job)?;
+        run.scalars.put_back(invoked, &names);
     }
     Ok(())
 }
 
-fn run_iteration(
-    body: &[Stmt],
-    locals: Option<&[u32]>,
-    scalars: &mut Scalars,
-    number: &mut u64,
-    words: &mut Words,
-    checked: &Checked,
-) -> Result<(), Place>
-    requires sizes { HasLayout words.old checked.now.decls }
-    requires locals { IfSome locals (λ list. (name : ℕ) → is_among list.now name ≡ is_among (locals_of body.now) name) }
-    requires room { number.old + 1 < 2 ^ 64 }
-    ensures { Iterates (arrays_of checked.now.decls) body.now (names_changed body.now) result scalars.old number.old words.old scalars.new number.new words.new }
+/// The one iteration of a statement that writes a word.
+pub(crate) fn run_write(stmt: &Stmt, run: &mut Run, job: &Job) -> Result<(), Place>
+    requires { IsReady job.now 1 run.old }
+    ensures { Iterates (setting_in job.now) (stmt.now ∷ []) (names_changed (stmt.now ∷ [])) result run.old run.new }
 {
-    let ended = run_body(body, locals, scalars, words, checked);
-    count_iteration(ended, number)
+    run_iteration(slice::from_ref(stmt), &None, run, job)
 }
 
-/// The one iteration of a statement that writes a word.
-pub(crate) fn run_write(
-    stmt: &Stmt,
-    scalars: &mut RunScalars,
-    number: &mut u64,
-    words: &mut Words,
-    checked: &Checked,
+fn run_iteration(
+    body: &[Stmt],
+    locals: &Option<FewNames>,
+    run: &mut Run,
+    job: &Job,
 ) -> Result<(), Place>
-    requires sizes { HasLayout words.old checked.now.decls }
-    requires room { number.old + 1 < 2 ^ 64 }
-    ensures { Iterates (arrays_of checked.now.decls) (stmt.now ∷ []) (names_changed (stmt.now ∷ [])) result scalars.old number.old words.old scalars.new number.new words.new }
+    requires ready { IsReady job.now 1 run.old }
+    requires locals { IfSome locals.now (λ list. HasNames list.items (locals_of body.now)) }
+    ensures { Iterates (setting_in job.now) body.now (names_changed body.now) result run.old run.new }
 {
-    run_iteration(
-        slice::from_ref(stmt),
-        None,
-        &mut scalars.present,
-        number,
-        words,
-        checked,
-    )
+    let scalars = &mut run.scalars.present;
+    let ended = run_body(body, listed(locals), scalars, &mut run.words, job.checked());
+    count_iteration(ended, &mut run.number)
 }
 
 fn count_iteration(ended: Result<(), TurnTrap>, number: &mut u64) -> Result<(), Place>

@@ -15,7 +15,7 @@ mod laws;
 mod numbered;
 mod outcomes;
 mod plain;
-mod run_scalars;
+mod run;
 mod saved;
 mod values;
 

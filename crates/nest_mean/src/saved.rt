@@ -1,9 +1,9 @@
-ghost use Rattle.std.specs.Prelude.{◌≡◌, ℕ, [], ◌∷◌, map, if◌then◌else◌, IfSome};
+ghost use Rattle.std.specs.Prelude.{◌≡◌, [], ◌∷◌, map, if◌then◌else◌, IfSome};
 ghost use Rattle.std.specs.List.{concat};
-ghost use Rattle.nest_syntax.specs.Among.{is_among};
 ghost use Rattle.nest_syntax.specs.Value.{scalar_at};
 ghost use Rattle.nest_syntax.specs.Locals.{given, given_in_arm, given_in_loop, names_given, locals_of, with_zeros};
 ghost use Rattle.nest_mean.specs.NamesChanged.{changed_in_loop};
+ghost use Rattle.nest_mean.specs.Added.{HasNames};
 ghost use Rattle.nest_mean.specs.Saved.{taken_over};
 
 use crate::values::Scalars;
@@ -82,7 +82,7 @@ pub(crate) fn put_back(
     source: &Scalars,
     target: &mut Scalars,
 )
-    requires { IfSome names (λ list. (name : ℕ) → is_among list.now name ≡ is_among (changed_in_loop invoked.now) name) }
+    requires { IfSome names (λ list. HasNames list.now (changed_in_loop invoked.now)) }
     ensures { target.new ≡ taken_over (changed_in_loop invoked.now) source.now target.old }
 {
     let source = source.as_slice();
@@ -94,7 +94,7 @@ pub(crate) fn put_back(
 
 /// Gives each local of a body 0, by a list of the locals where there is one.
 pub fn clear_locals(body: &[Stmt], locals: Option<&[u32]>, scalars: &mut Scalars)
-    requires { IfSome locals (λ list. (name : ℕ) → is_among list.now name ≡ is_among (locals_of body.now) name) }
+    requires { IfSome locals (λ list. HasNames list.now (locals_of body.now)) }
     ensures { scalars.new ≡ with_zeros (locals_of body.now) scalars.old }
 {
     let zeros = no_values();
