@@ -1,13 +1,11 @@
 //! The events of nests, found by hand.
 ghost use Rattle.std.specs.Prelude.{◌≡◌, true, IfOk};
 ghost use Rattle.word_store.specs.Memory.{HasLayout};
-ghost use Rattle.nest_partition.specs.Split.{IsSplitOf};
 ghost use Rattle.sched_cursor.specs.Events.{is_inside, is_iterating, is_of_invocation, is_iteration};
 ghost use Rattle.sched_cursor.specs.Laws.{IsCursorOf};
 
 use nest_check::Checked;
 use nest_input::{read_nest, read_words};
-use nest_partition::{Split, partition};
 use nest_syntax::{Cause, Place};
 use sched_cursor::{Cursor, Event};
 use std::alloc::{AllocError, Global};
@@ -17,16 +15,10 @@ use std::test::Fail;
 use word_store::Words;
 
 /// The event at which a cursor stands, with the number of iterations before it and the scalars.
-fn show_event(
-    text: &mut String,
-    cursor: &Cursor,
-    checked: &Checked,
-    split: &Split,
-) -> Result<Event, AllocError>
-    requires { IsSplitOf checked.now split.now }
+fn show_event(text: &mut String, cursor: &Cursor, checked: &Checked) -> Result<Event, AllocError>
     ensures { IfOk result (λ event. (is_inside cursor.now.at ≡ is_of_invocation event) × (is_iterating cursor.now.at ≡ is_iteration event)) }
 {
-    let event = cursor.peek(checked, split);
+    let event = cursor.peek();
     let letter = match event {
         Event::Scalar => "S",
         Event::Drain => "D",
@@ -70,16 +62,14 @@ fn go_on(
     text: &mut String,
     cursor: &mut Cursor,
     checked: &Checked,
-    split: &Split,
     words: &Words,
     whole: bool,
 ) -> Result<bool, AllocError>
     requires of { IsCursorOf checked.now cursor.old }
-    requires split { IsSplitOf checked.now split.now }
     requires sizes { HasLayout words.now checked.now.decls }
     ensures { IfOk result (λ more. IsCursorOf checked.now cursor.new) }
 {
-    match show_event(text, cursor, checked, split)? {
+    match show_event(text, cursor, checked)? {
         Event::End => return Ok(false),
         Event::Iterate => {
             if whole {
@@ -100,7 +90,7 @@ fn go_on(
         return Ok(true);
     };
     show_trap(text, &place)?;
-    show_event(text, cursor, checked, split)?;
+    show_event(text, cursor, checked)?;
     Ok(false)
 }
 
@@ -109,16 +99,14 @@ fn show_events(
     text: &mut String,
     cursor: &mut Cursor,
     checked: &Checked,
-    split: &Split,
     words: &Words,
     whole: bool,
 ) -> Result<(), AllocError>
     requires of { IsCursorOf checked.now cursor.old }
-    requires split { IsSplitOf checked.now split.now }
     requires sizes { HasLayout words.now checked.now.decls }
 {
     for event in 0..60 {
-        if !go_on(text, cursor, checked, split, words, whole)? {
+        if !go_on(text, cursor, checked, words, whole)? {
             break;
         }
     }
@@ -129,10 +117,9 @@ fn course(rt: &impl Abort, alloc: Global, input: &str, whole: bool) -> Result<St
     assert!(rt; input.len() <= 1000);
     let checked = read_nest(alloc, input.as_bytes())?;
     let words = read_words(alloc, input.as_bytes(), &checked)?;
-    let split = partition(alloc, &checked)?;
     let mut cursor = Cursor::start(alloc, &checked)?;
     let mut text = String::new(alloc);
-    show_events(&mut text, &mut cursor, &checked, &split, &words, whole)?;
+    show_events(&mut text, &mut cursor, &checked, &words, whole)?;
     Ok(text)
 }
 

@@ -14,7 +14,6 @@ ghost use Rattle.domore_core.specs.Stages.{stage_of, stage_move, number_at};
 ghost use Rattle.domore_core.specs.Tables.{state_of, setup_by, IsPlan, IsSound};
 
 use crate::moves::{Move, Turn};
-use crate::passing::event_of;
 use crate::plan::Plan;
 use crate::stage::Stage;
 use crate::table::Table;
@@ -116,7 +115,7 @@ impl Table {
         requires untrapped { self.now.trap ≡ None }
         ensures { result ≡ option_map told (machine.event_move (setup_by plan.now) (state_of self.now) (event_at (arrays_of plan.now.job.program.decls) plan.now.job.opening.words self.now.desk.cursor)) }
     {
-        match event_of(&self.desk.cursor, plan) {
+        match self.desk.cursor.peek() {
             Event::Scalar => Some(Move::Turn(Turn::Scalar)),
             Event::Drain => self.drain_move(),
             Event::Iterate => self.dispatch_move(plan.options.queue),

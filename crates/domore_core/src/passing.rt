@@ -2,7 +2,7 @@
 ghost use Rattle.std.specs.Prelude.{◌≡◌, ◌<◌, ◌^◌, false, None, IfSome};
 ghost use Rattle.nest_syntax.specs.Arrays.{arrays_of};
 ghost use Rattle.word_store.specs.Memory.{HasLayout};
-ghost use Rattle.sched_cursor.specs.Events.{kind_of, is_inside, is_iterating, is_of_invocation, purpose_at};
+ghost use Rattle.sched_cursor.specs.Events.{is_inside, is_iterating, purpose_at};
 ghost use Rattle.sched_cursor.specs.Laws.{IsCursorOf, SameConst};
 ghost use Rattle.nest_setup.specs.Laws.{IsAnswered};
 ghost use Rattle.domore_core.specs.Tables.{setup_by, counted_by, next_past, purpose_behind, IsPlan, IsDeskBy};
@@ -31,7 +31,7 @@ impl Desk {
     {
         let next = self.cursor.next();
         let trap = go_behind(&mut self.cursor, plan, words);
-        let stands_inside = is_inside(&self.cursor, plan);
+        let stands_inside = is_inside(&self.cursor);
         self.tally.begin_if(trap.is_none(), stands_inside, next);
         trap
     }
@@ -51,19 +51,9 @@ fn go_behind(cursor: &mut Cursor, plan: &Plan, words: &Words) -> Option<Place>
     cursor.advance(plan.job.checked(), words)
 }
 
-/// The event at which the cursor stands.
-pub(crate) fn event_of(cursor: &Cursor, plan: &Plan) -> Event
-    requires { IsPlan plan.now }
-    ensures kind { result ≡ kind_of (arrays_of plan.now.job.program.decls) cursor.now }
-    ensures inside { is_inside cursor.now.at ≡ is_of_invocation result }
-{
-    cursor.peek(plan.job.checked(), &plan.split)
-}
-
 // Whether the cursor stands in an invocation.
-fn is_inside(cursor: &Cursor, plan: &Plan) -> bool
-    requires { IsPlan plan.now }
+fn is_inside(cursor: &Cursor) -> bool
     ensures { result ≡ is_inside cursor.now.at }
 {
-    matches!(event_of(cursor, plan), Event::Iterate | Event::Close)
+    matches!(cursor.peek(), Event::Iterate | Event::Close)
 }

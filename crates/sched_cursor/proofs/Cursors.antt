@@ -1,8 +1,9 @@
 -- A cursor that was made from a program stays one.
-use Rattle.std.proofs.Common.{◌≡◌, ℕ, ◌+◌, ◌*◌, ◌^◌, ◌<◌, ◌≤◌, ℤ, Option, Some, None, Result, Ok, Err, List, [], map, length, slice_get, refl, sym, ap, ◌∙◌, subst, arith}
+use Rattle.std.proofs.Common.{◌≡◌, ℕ, ◌+◌, ◌*◌, ◌^◌, ◌<◌, ◌≤◌, ℤ, Bool, true, false, if◌then◌else◌, Option, Some, None, Result, Ok, Err, List, [], map, length, slice_get, refl, sym, ap, ◌∙◌, subst, arith}
 use Rattle.std.specs.Prelude.{IfSome}
 use Rattle.std.specs.List.{flat_map}
 use Rattle.std.specs.Option.{option_map, option_and_then, option_map_or}
+use Rattle.std.proofs.lemmas.Option.{slice_get-map}
 use Rattle.nest_syntax.specs.declared.place.Place.{Place}
 use Rattle.nest_syntax.specs.declared.tree.Loop.{Loop}
 use Rattle.nest_syntax.specs.declared.tree.Program.{Program}
@@ -20,8 +21,11 @@ use Rattle.sched_cursor.specs.declared.node.Next.TheVariants as next
 use Rattle.sched_cursor.specs.declared.node.Node.{Node}
 use Rattle.sched_cursor.specs.declared.node.Invocation.{Invocation}
 use Rattle.sched_cursor.specs.declared.node.At.TheVariants as at
+use Rattle.sched_cursor.specs.declared.event.Event.{Event}
+use Rattle.sched_cursor.specs.declared.event.Event.TheVariants as event
+use Rattle.sched_cursor.specs.Steps.{is_drain}
 use Rattle.sched_cursor.specs.Cursor.{Cursor}
-use Rattle.sched_cursor.specs.Events.{after_event, as_answer, placed, behind_invocation, plain_event_when}
+use Rattle.sched_cursor.specs.Events.{after_event, as_answer, placed, behind_invocation, kind_found, plain_event_when}
 use Rattle.sched_cursor.specs.Doings.{doings_in_region, runs, AreTold}
 use Rattle.sched_cursor.specs.Rooms.{MostOf, by_end, HasRoom, outside}
 use Rattle.sched_cursor.specs.Scripts.{FollowsIn, PutsRegion}
@@ -35,6 +39,7 @@ use Rattle.sched_cursor.proofs.Scheduled.{restart_tells, restart_tells_nodes, ar
 stays_cursor : (program : Program) (c later : Cursor) → IsCursorOf program c → Stays c later → Tells (naming_of program) later → HasRoom later → IsCursorOf program later
 stays_cursor program c later is stays tells room = record {
   script = λ setting nest d same at_is. is.script setting nest d (same ∙ stays.nodes) (at_is ∙ ap at.Before stays.entry);
+  drains = stays.drains ∙ is.drains ∙ ap (map (is_drain (arrays_of program.decls))) (sym stays.nodes);
   names = subst (NumbersNames program) (sym stays.names) is.names;
   tells = tells;
   room = room;
@@ -58,12 +63,12 @@ goes_past program c is = stays_cursor program c (behind_invocation c c.at) is (s
 
 -- at the start again
 pub goes_back : (program : Program) (c : Cursor) → IsCursorOf program c → IsCursorOf program (restarted program c)
-goes_back program c is = stays_cursor program c (restarted program c) is (record { nodes = refl; entry = refl; names = refl }) (restart_tells program c is.tells) (outside c.entry (2 ^ 60) refl is.entry (omega arith))
+goes_back program c is = stays_cursor program c (restarted program c) is (record { nodes = refl; drains = refl; entry = refl; names = refl }) (restart_tells program c is.tells) (outside c.entry (2 ^ 60) refl is.entry (omega arith))
 
 -- a script that was found for a program with its names makes a cursor
 pub starts : (program : Program) (c : Cursor) (count first : ℕ) → IsWellNamed program → KeepsRules program → count ≡ length (bodies_of program) → length (bodies_of program) ≤ 4096
-    → PutsRegion [] count c.nodes first (λ (s : Setting). in_order (map (region_of s) program.regions)) (flat_map doings_in_region program.regions) next.End c.entry → NumbersNames program c.names → c ≡ restarted program c → IsCursorOf program c
-starts program c count first named keeps counted few puts names is =
+    → PutsRegion [] count c.nodes first (λ (s : Setting). in_order (map (region_of s) program.regions)) (flat_map doings_in_region program.regions) next.End c.entry → c.drains ≡ map (is_drain (arrays_of program.decls)) c.nodes → NumbersNames program c.names → c ≡ restarted program c → IsCursorOf program c
+starts program c count first named keeps counted few puts drains names is =
     let told = puts.counts (setting_of program []) in
     let bodies : length (in_order (map (region_of (setting_of program [])) program.regions)).bodies ≡ length (bodies_of program) = ap length (regions_same (setting_of program []) program.regions) in
     let none : first ≡ 0 = omega arith in
@@ -74,6 +79,7 @@ starts program c count first named keeps counted few puts names is =
     subst (IsCursorOf program) (sym is) (record {
       script = λ setting nest later same at_is. subst (λ f. FollowsIn setting nest later ((in_order (map (region_of setting) program.regions)).events f later.scalars (λ after. course.End))) none
           (puts.enacts setting nest later (λ n this there. ap (λ nodes. slice_get nodes n) same ∙ there) at_is (λ after. course.End) (λ last same' at'. ap (plain_event_when setting.arrays setting.words last) at'));
+      drains = drains;
       names = names;
       tells = restart_tells_nodes program c nodes;
       room = outside c.entry (2 ^ 60) refl entry (omega arith);
@@ -81,15 +87,15 @@ starts program c count first named keeps counted few puts names is =
     })
 
 -- and it stands at its start
-pub starts_with : (program : Program) (regions : List Loop) (old nodes : List Node) (count first : ℕ) (entry : Next) (scalars : List ℤ) (names : List (Option ℕ)) (c : Cursor) → IsWellNamed program → KeepsRules program
+pub starts_with : (program : Program) (regions : List Loop) (old nodes : List Node) (drains : List Bool) (count first : ℕ) (entry : Next) (scalars : List ℤ) (names : List (Option ℕ)) (c : Cursor) → IsWellNamed program → KeepsRules program
     → count ≡ length (bodies_of program) → length (bodies_of program) ≤ 4096 → PutsRegion old count nodes first (λ (s : Setting). in_order (map (region_of s) regions)) (flat_map doings_in_region regions) next.End entry
-    → old ≡ [] → regions ≡ program.regions → NumbersNames program names → scalars ≡ course.opening_scalars program → c ≡ before_entry nodes entry scalars names → IsCursorOf program c × (c ≡ restarted program c)
-starts_with program regions old nodes count first entry scalars names c named keeps counted few puts none all numbers opening is =
-    let begun : Cursor = before_entry nodes entry (course.opening_scalars program) names in
-    let same : begun ≡ c = sym (is ∙ ap (λ s. before_entry nodes entry s names) opening) in
+    → old ≡ [] → regions ≡ program.regions → drains ≡ map (is_drain (arrays_of program.decls)) nodes → NumbersNames program names → scalars ≡ course.opening_scalars program → c ≡ before_entry nodes drains entry scalars names → IsCursorOf program c × (c ≡ restarted program c)
+starts_with program regions old nodes drains count first entry scalars names c named keeps counted few puts none all told numbers opening is =
+    let begun : Cursor = before_entry nodes drains entry (course.opening_scalars program) names in
+    let same : begun ≡ c = sym (is ∙ ap (λ s. before_entry nodes drains entry s names) opening) in
     let of_none : PutsRegion [] count nodes first (λ (s : Setting). in_order (map (region_of s) regions)) (flat_map doings_in_region regions) next.End entry = subst (λ ns. PutsRegion ns count nodes first (λ (s : Setting). in_order (map (region_of s) regions)) (flat_map doings_in_region regions) next.End entry) none puts in
     let of_all : PutsRegion [] count nodes first (λ (s : Setting). in_order (map (region_of s) program.regions)) (flat_map doings_in_region program.regions) next.End entry = subst (λ rs. PutsRegion [] count nodes first (λ (s : Setting). in_order (map (region_of s) rs)) (flat_map doings_in_region rs) next.End entry) all of_none in
-    subst (λ d. IsCursorOf program d × (d ≡ restarted program d)) same (starts program begun count first named keeps counted few of_all numbers refl, refl)
+    subst (λ d. IsCursorOf program d × (d ≡ restarted program d)) same (starts program begun count first named keeps counted few of_all told numbers refl, refl)
 
 -- the invocation that was entered
 pub inside_few : (program : Program) (c : Cursor) (i : Invocation) → c.at ≡ at.Inside i → IsCursorOf program c → (i.turning.turn ≤ i.turning.trips) × (i.turning.trips ≤ most_turns) × (i.body < length (bodies_of program))
@@ -140,3 +146,20 @@ cursors_stay = record {
   alone = inside_alone;
   entered = inside_few;
 }
+
+-- the kind of an event that stands in the text, by whether it is a drain
+abbrev pub kind_told : Option Bool → Event
+kind_told None = event.End
+kind_told (Some true) = event.Drain
+kind_told (Some false) = event.Scalar
+
+pub kind_looked_up : (program : Program) (c : Cursor) (n : ℕ) → IsCursorOf program c → kind_told (slice_get c.drains n) ≡ kind_found (arrays_of program.decls) (slice_get c.nodes n)
+kind_looked_up program c n is = ap (λ drains. kind_told (slice_get drains n)) is.drains ∙ ap kind_told (slice_get-map (is_drain (arrays_of program.decls)) c.nodes n) ∙ by (slice_get c.nodes n)
+  where
+    by_drain : (b : Bool) → kind_told (Some b) ≡ (if b then event.Drain else event.Scalar)
+    by_drain true = refl
+    by_drain false = refl
+
+    by : (found : Option Node) → kind_told (option_map (is_drain (arrays_of program.decls)) found) ≡ kind_found (arrays_of program.decls) found
+    by None = refl
+    by (Some this) = by_drain (is_drain (arrays_of program.decls) this)

@@ -1,6 +1,6 @@
 -- Scalars that were given the values of the scheduler's agree with those of the iteration.
-use Rattle.std.proofs.Common.{◌≡◌, ℕ, zero, suc, ◌==◌, ℤ, pos, Bool, true, false, nat_lt, Option, Some, None, List, [], ◌∷◌, length, slice_get, refl, sym, ap, ◌∙◌, subst, get_or, ◌≤◌}
-use Rattle.std.specs.Option.{option_map, option_and_then, option_map_or}
+use Rattle.std.proofs.Common.{◌≡◌, ℕ, zero, suc, ℤ, pos, Bool, true, false, nat_lt, Option, Some, None, List, [], ◌∷◌, length, slice_get, refl, sym, ap, ◌∙◌, subst, get_or, ◌≤◌}
+use Rattle.std.specs.Option.{option_map, option_and_then}
 use Rattle.std.proofs.lemmas.Bool.{ltb-true, ltb-false}
 use Rattle.std.proofs.lemmas.List.{length-set, get_or_past}
 use Rattle.nest_syntax.specs.declared.tree.Loop.{Loop}
@@ -13,9 +13,8 @@ use Rattle.sched_cursor.specs.declared.node.At.{At}
 use Rattle.sched_cursor.specs.declared.node.At.TheVariants as at
 use Rattle.sched_cursor.specs.Turning.{variable_of}
 use Rattle.sched_cursor.specs.Cursor.{Cursor}
-use Rattle.sched_cursor.specs.Events.{is_iterating, value_of, handed_at, scalars_inside, iteration_at}
+use Rattle.sched_cursor.specs.Events.{is_iterating, value_of, handed_at, scalars_inside}
 use Rattle.sched_cursor.specs.Handed.{what_of, loop_of_body, variable_of_body, NumbersNames, AtTells, Tells, naming_of}
-use Rattle.sched_cursor.specs.Laws.{IsCursorOf}
 use Rattle.sched_cursor.specs.Given.{with_given, given_named, given_at, AgreeOn, GivenAgree}
 use Rattle.sched_cursor.proofs.Handing.{variable_told, told_inside}
 

@@ -261,9 +261,10 @@ module _ (naming : Naming) where
     pub tells_behind_invocation : Tells naming (behind_invocation c c.at)
     tells_behind_invocation = tells_behind c.at
 
--- script, entry and numbers stay as they are
+-- the script with what drains in it, entry and numbers stay as they are
 pub record Stays (c later : Cursor) : Type 0 where
   pub nodes : later.nodes ≡ c.nodes
+  pub drains : later.drains ≡ c.drains
   pub entry : later.entry ≡ c.entry
   pub names : later.names ≡ c.names
 
@@ -273,13 +274,13 @@ StaysOk c (Err trap) = Unit {0}
 
 module _ (arrays : List Array) (words : List ℤ) (c : Cursor) where
   stays_here : Stays c c
-  stays_here = record { nodes = refl; entry = refl; names = refl }
+  stays_here = record { nodes = refl; drains = refl; entry = refl; names = refl }
 
   stays_step : (made : Step) → Stays c (stepped c made)
-  stays_step (step.Enter region) = record { nodes = refl; entry = refl; names = refl }
-  stays_step (step.Change name new behind) = record { nodes = refl; entry = refl; names = refl }
-  stays_step (step.Go behind) = record { nodes = refl; entry = refl; names = refl }
-  stays_step (step.Invoke invocation) = record { nodes = refl; entry = refl; names = refl }
+  stays_step (step.Enter region) = record { nodes = refl; drains = refl; entry = refl; names = refl }
+  stays_step (step.Change name new behind) = record { nodes = refl; drains = refl; entry = refl; names = refl }
+  stays_step (step.Go behind) = record { nodes = refl; drains = refl; entry = refl; names = refl }
+  stays_step (step.Invoke invocation) = record { nodes = refl; drains = refl; entry = refl; names = refl }
 
   stays_made : (line : Line) (made : Result Step Cause) → StaysOk c (at_line line (and_then made (λ m. Ok (stepped c m))))
   stays_made line (Ok made) = stays_step made
@@ -290,12 +291,12 @@ module _ (arrays : List Array) (words : List ℤ) (c : Cursor) where
   stays_found (Some this) = stays_made (line_of this) (step_of arrays this c.scalars words)
 
   stays_turn : (has : Bool) → Stays c (if has then record c { at = at.Before c.region.items; region = record c.region { turning = one_passed c.region.turning }; scalars = with_scalar c.scalars c.region.name (variable_of c.region.turning) } else standing c c.region.leave)
-  stays_turn true = record { nodes = refl; entry = refl; names = refl }
-  stays_turn false = record { nodes = refl; entry = refl; names = refl }
+  stays_turn true = record { nodes = refl; drains = refl; entry = refl; names = refl }
+  stays_turn false = record { nodes = refl; drains = refl; entry = refl; names = refl }
 
   stays_iteration : (i : Invocation) (has : Bool) → Stays c (if has then record c { at = at.Inside (record i { turning = one_passed i.turning }); next = c.next + 1 } else standing c i.next)
-  stays_iteration i true = record { nodes = refl; entry = refl; names = refl }
-  stays_iteration i false = record { nodes = refl; entry = refl; names = refl }
+  stays_iteration i true = record { nodes = refl; drains = refl; entry = refl; names = refl }
+  stays_iteration i false = record { nodes = refl; drains = refl; entry = refl; names = refl }
 
   stays_at : (a : At) → StaysOk c (after_at arrays c words a)
   stays_at (at.Before (next.Node n)) = stays_found (slice_get c.nodes n)
@@ -308,7 +309,7 @@ module _ (arrays : List Array) (words : List ℤ) (c : Cursor) where
 
   stays_past : (a : At) → Stays c (behind_invocation c a)
   stays_past (at.Before behind) = stays_here
-  stays_past (at.Inside i) = record { nodes = refl; entry = refl; names = refl }
+  stays_past (at.Inside i) = record { nodes = refl; drains = refl; entry = refl; names = refl }
 
   pub stays_behind : Stays c (behind_invocation c c.at)
   stays_behind = stays_past c.at

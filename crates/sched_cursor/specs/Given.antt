@@ -1,12 +1,10 @@
 -- Scalars that are given the values of the scheduler's scalars in the next iteration.
-use Rattle.std.specs.Prelude.{◌≡◌, ℕ, ℤ, true, Option, Some, List, [], ◌∷◌, length, slice_get}
-use Rattle.std.specs.Option.{option_map_or, option_and_then}
+use Rattle.std.specs.Prelude.{◌≡◌, ℕ, ℤ, true, Option, Some, List, [], ◌∷◌, length}
+use Rattle.std.specs.Option.{option_map_or}
 use Rattle.nest_syntax.specs.declared.tree.Loop.{Loop}
 use Rattle.nest_syntax.specs.declared.tree.Program.{Program}
-use Rattle.nest_syntax.specs.Shape.{Body, invoked_by}
 use Rattle.nest_syntax.specs.Value.{scalar_at, with_scalar}
 use Rattle.nest_check.specs.Tables.{scalar_of}
-use Rattle.sched_cursor.specs.declared.event.Iteration.{Iteration}
 use Rattle.sched_cursor.specs.declared.node.At.{At}
 use Rattle.sched_cursor.specs.declared.node.At.TheVariants as at
 use Rattle.sched_cursor.specs.Turning.{variable_of}

@@ -1,5 +1,5 @@
 -- A cursor and the course of its program.
-use Rattle.std.specs.Prelude.{◌≡◌, ℕ, zero, suc, ◌+◌, ◌-◌, ◌^◌, ◌<◌, ◌≤◌, ℤ, pos, true, false, if◌then◌else◌, Option, Some, None, Ok, List, map, length}
+use Rattle.std.specs.Prelude.{◌≡◌, ℕ, zero, suc, ◌+◌, ◌-◌, ◌^◌, ◌<◌, ◌≤◌, ℤ, pos, Bool, true, false, if◌then◌else◌, Option, Some, None, Ok, List, map, length}
 use Rattle.nest_syntax.specs.declared.tree.Loop.{Loop}
 use Rattle.nest_syntax.specs.declared.tree.Program.{Program}
 use Rattle.nest_syntax.specs.Words.{most_turns}
@@ -19,6 +19,7 @@ use Rattle.sched_cursor.specs.declared.node.Region.{Region}
 use Rattle.sched_cursor.specs.declared.node.Invocation.{Invocation}
 use Rattle.sched_cursor.specs.declared.node.At.TheVariants as at
 use Rattle.sched_cursor.specs.Turning.{begun}
+use Rattle.sched_cursor.specs.Steps.{is_drain}
 use Rattle.sched_cursor.specs.Cursor.{Cursor}
 use Rattle.sched_cursor.specs.Events.{event_at, after_event, kind_of, behind_invocation, handed_in, is_of_invocation, is_iteration}
 use Rattle.sched_cursor.specs.Rooms.{MostOf, HasRoom}
@@ -34,16 +35,18 @@ abbrev pub no_region : Region
 no_region = record { name = 0; turning = begun (pos 0) 1 0; items = next.Turn; leave = next.End }
 
 -- a cursor with a script, before the event at which it is entered
-abbrev pub before_entry : List Node → Next → List ℤ → List (Option ℕ) → Cursor
-before_entry nodes entry scalars names = record { nodes = nodes; entry = entry; at = at.Before entry; region = no_region; scalars = scalars; names = names; next = 0 }
+abbrev pub before_entry : List Node → List Bool → Next → List ℤ → List (Option ℕ) → Cursor
+before_entry nodes drains entry scalars names = record { nodes = nodes; drains = drains; entry = entry; at = at.Before entry; region = no_region; scalars = scalars; names = names; next = 0 }
 
 -- a cursor at its start
 abbrev pub restarted : Program → Cursor → Cursor
-restarted program c = before_entry c.nodes c.entry (opening_scalars program) c.names
+restarted program c = before_entry c.nodes c.drains c.entry (opening_scalars program) c.names
 
--- A cursor was made from a program: its script is the program's, it agrees with its names, and at most 2^60 iterations come.
+-- A cursor was made from a program: its script is the program's, with what drains in it, it agrees with its names, and at
+-- most 2^60 iterations come.
 pub record IsCursorOf (program : Program) (c : Cursor) : Type 0 where
   pub script : IsScriptOf program c
+  pub drains : c.drains ≡ map (is_drain (arrays_of program.decls)) c.nodes
   pub names : NumbersNames program c.names
   pub tells : Tells (naming_of program) c
   pub room : HasRoom c

@@ -1,12 +1,13 @@
 -- What the scheduler computes at an event that stands in the text.
-use Rattle.std.specs.Prelude.{ℕ, ℤ, pos, if◌then◌else◌, Some, None, Result, Ok, List, [], ◌∷◌}
+use Rattle.std.specs.Prelude.{ℕ, ℤ, pos, Bool, if◌then◌else◌, Some, None, Result, Ok, List, [], ◌∷◌}
+use Rattle.std.specs.List.{list_any}
 use Rattle.nest_syntax.specs.declared.names.Line.{Line}
 use Rattle.nest_syntax.specs.declared.operators.Cause.{Cause}
 use Rattle.nest_syntax.specs.declared.operators.Op.{Op}
 use Rattle.nest_syntax.specs.declared.tree.Expr.{Expr}
 use Rattle.nest_syntax.specs.Words.{is_zero, operation_of, assigned, turns, counted}
 use Rattle.nest_syntax.specs.Arrays.{Array}
-use Rattle.nest_syntax.specs.Value.{value, and_then, scalar_at}
+use Rattle.nest_syntax.specs.Value.{value, and_then, scalar_at, names_written}
 use Rattle.nest_syntax.specs.Course.{Purpose, Ordinary, Header}
 use Rattle.sched_cursor.specs.declared.node.Header.{Header as LoopHeader}
 use Rattle.sched_cursor.specs.declared.node.Node.{Node}
@@ -15,7 +16,7 @@ use Rattle.sched_cursor.specs.declared.step.Step.{Step}
 use Rattle.sched_cursor.specs.declared.step.Step.TheVariants as step
 use Rattle.sched_cursor.specs.Turning.{Turning, begun}
 
--- the expressions that an event evaluates, the line of its trap, and its purpose
+-- the expressions that an event evaluates
 abbrev pub exprs_of : Node → List Expr
 exprs_of (node.Region header items leave) = header.low ∷ header.high ∷ []
 exprs_of (node.Change line name op expr next) = expr ∷ []
@@ -23,6 +24,11 @@ exprs_of (node.Test line test taken otherwise) = test ∷ []
 exprs_of (node.Invoke header body next) = header.low ∷ header.high ∷ []
 exprs_of (node.Write line body next) = []
 
+-- whether one of them names a written array
+abbrev pub is_drain : List Array → Node → Bool
+is_drain arrays this = list_any (names_written arrays) (exprs_of this)
+
+-- the line of its trap, and its purpose
 abbrev pub line_of : Node → Line
 line_of (node.Region header items leave) = header.line
 line_of (node.Change line name op expr next) = line

@@ -1,22 +1,16 @@
-ghost use Rattle.std.specs.Prelude.{◌≡◌, ◌<◌, ◌≤◌, ◌^◌, true, false, Some, map, length};
-ghost use Rattle.std.specs.List.{list_any};
+ghost use Rattle.std.specs.Prelude.{◌≡◌, ◌<◌, ◌≤◌, ◌^◌, true, Some, map, length};
 ghost use Rattle.nest_syntax.specs.declared.tree.Program.{Program};
 ghost use Rattle.nest_syntax.specs.Words.{most_turns};
 ghost use Rattle.nest_syntax.specs.Arrays.{arrays_of};
 ghost use Rattle.nest_syntax.specs.Shape.{bodies_of};
-ghost use Rattle.nest_syntax.specs.Value.{names_written};
-ghost use Rattle.nest_partition.specs.Split.{IsSplitOf};
 ghost use Rattle.sched_cursor.specs.Turning.{Reaches};
-ghost use Rattle.sched_cursor.specs.Steps.{exprs_of};
-ghost use Rattle.sched_cursor.specs.Events.{kind_of, kind_found, here_at, is_inside, is_iterating, is_of_invocation, is_iteration, handed_at, env_of, value_of};
+ghost use Rattle.sched_cursor.specs.Events.{kind_of, here_at, is_inside, is_iterating, is_of_invocation, is_iteration, handed_at, env_of, value_of};
 ghost use Rattle.sched_cursor.specs.Given.{with_given, given_named, given_at};
 ghost use Rattle.sched_cursor.specs.Laws.{IsCursorOf};
 
 use crate::event::{Event, Here, Iteration};
 use crate::node::{At, Next, Node, Region};
-use nest_check::Checked;
 use nest_mean::Scalars;
-use nest_partition::Split;
 use std::marker::Model;
 
 /// Where the scheduler stands in the course of a program.
@@ -24,6 +18,8 @@ use std::marker::Model;
 pub struct Cursor {
     /// The events that stand in the text, found once at the start.
     pub(crate) nodes: Vec<Node>,
+    /// Of each of them whether it is a drain.
+    pub(crate) drains: Vec<bool>,
     /// Where the course begins.
     pub(crate) entry: Next,
     pub(crate) at: At,
@@ -45,20 +41,21 @@ impl Model for Cursor {
 
     ghost coded = { Prim.hlevel (codes, expr.the_row.coded) };
 
-    ghost view = { λ c. record { nodes = c.nodes.items; entry = c.entry; at = c.at; region = c.region; scalars = c.scalars; names = c.names; next = c.next } };
+    ghost view = { λ c. record { nodes = c.nodes.items; drains = c.drains.items; entry = c.entry; at = c.at; region = c.region; scalars = c.scalars; names = c.names; next = c.next } };
 }
 
 impl Cursor {
     /// The event at which the cursor stands.
-    pub fn peek(&self, checked: &Checked, split: &Split) -> Event
-        requires { IsSplitOf checked.now split.now }
-        ensures kind { result ≡ kind_of (arrays_of checked.now.decls) self.now }
+    #[tactic(auto, using(crate::proofs::Cursors::kind_looked_up))]
+    pub fn peek(&self) -> Event
+        ensures kind { (program : Program) → IsCursorOf program self.now → result ≡ kind_of (arrays_of program.decls) self.now }
         ensures inside { is_inside self.now.at ≡ is_of_invocation result }
         ensures iterates { is_iterating self.now.at ≡ is_iteration result }
     {
         match &self.at {
-            At::Before(Next::Node(number)) => match self.nodes.get(*number) {
-                Some(node) => kind_of_node(node, checked, split),
+            At::Before(Next::Node(number)) => match self.drains.get(*number) {
+                Some(true) => Event::Drain,
+                Some(false) => Event::Scalar,
                 None => Event::End,
             },
             At::Before(Next::Turn) => Event::Scalar,
@@ -180,36 +177,5 @@ fn put(name: Option<u32>, value: i64, into: &mut Scalars)
 {
     if let Some(name) = name {
         into.set(name, value);
-    }
-}
-
-fn kind_of_node(node: &Node, checked: &Checked, split: &Split) -> Event
-    requires { IsSplitOf checked.now split.now }
-    ensures kind { result ≡ kind_found (arrays_of checked.now.decls) (Some node.now) }
-    ensures inside { is_of_invocation result ≡ false }
-    ensures iterates { is_iteration result ≡ false }
-{
-    if node.drains(checked, split) {
-        Event::Drain
-    } else {
-        Event::Scalar
-    }
-}
-
-impl Node {
-    // Whether an expression that the event evaluates is a drain point.
-    #[tactic(auto, using(crate::proofs::Presents::either_of_two, crate::proofs::Presents::either_of_one))]
-    fn drains(&self, checked: &Checked, split: &Split) -> bool
-        requires { IsSplitOf checked.now split.now }
-        ensures { result ≡ list_any (names_written (arrays_of checked.now.decls)) (exprs_of self.now) }
-    {
-        match self {
-            Node::Region { header, .. } | Node::Invoke { header, .. } => {
-                split.drains(&header.low) || split.drains(&header.high)
-            }
-            Node::Change { value, .. } => split.drains(value),
-            Node::Test { test, .. } => split.drains(test),
-            Node::Write { .. } => false,
-        }
     }
 }

@@ -7,6 +7,7 @@
 
 mod advance;
 mod cursor;
+mod drains;
 mod event;
 mod laws;
 mod node;

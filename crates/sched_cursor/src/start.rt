@@ -4,6 +4,7 @@ ghost use Rattle.sched_cursor.specs.Laws.{IsCursorOf, no_region, before_entry, r
 ghost use Rattle.sched_cursor.specs.Handed.{NumbersNames};
 
 use crate::cursor::Cursor;
+use crate::drains::drains_of;
 use crate::node::{At, Next, Region};
 use crate::script::Script;
 use crate::turning::Turning;
@@ -23,21 +24,25 @@ impl Cursor {
             first: checked.data_locals().len() as u32,
         };
         let entry = script.regions(alloc, program.regions.as_slice())?;
+        let drains = drains_of(alloc, checked, script.nodes.as_slice())?;
         let scalars = opening_scalars(alloc, program)?;
-        Ok(Cursor::before_entry(script, entry, scalars, scalar_names(checked)))
+        let names = scalar_names(checked);
+        Ok(Cursor::before_entry(script, drains, entry, scalars, names))
     }
 
     // With this script, before the event at which it is entered.
     fn before_entry(
         script: Script,
+        drains: Vec<bool>,
         entry: Next,
         scalars: Scalars,
         names: [Option<u32>; 32],
     ) -> Cursor
-        ensures { result ≡ before_entry script.nodes.items entry scalars names }
+        ensures { result ≡ before_entry script.nodes.items drains.items entry scalars names }
     {
         Cursor {
             nodes: script.nodes,
+            drains,
             entry,
             at: At::Before(entry),
             region: no_region(),

@@ -8,7 +8,6 @@ use Rattle.nest_syntax.specs.declared.tree.Program.{Program}
 use Rattle.nest_syntax.specs.Among.{Each}
 use Rattle.nest_syntax.specs.Arrays.{Array, arrays_of, sizes_of}
 use Rattle.nest_syntax.specs.Shape.{Body, invoked_by}
-use Rattle.nest_partition.specs.Split.{IsSplitOf}
 use Rattle.word_store.specs.Memory.{most_words}
 use Rattle.nest_mean.specs.Nest.{Nest, CanRun, IsWellFormed}
 use Rattle.nest_check.proofs.Few.{few_words}
@@ -51,8 +50,8 @@ shared_there program b below =
     map_there (is_shared program) (invoked_by program) b.body found.0 false found.1
     ∙ sym (ap (λ o. option_map_or (λ (l : Loop). is_all (kind_of program l)) (option_and_then (λ (x : Body). x.header) o) true) found.1)
 
-pub is_plan : (plan : Plan) → IsInRange plan.options → IsCodeOf plan.job.program plan.code → IsSplitOf plan.job.program plan.split → plan.shared.items ≡ shared_in plan.job.program → plan.consts.items ≡ map (λ (a : Array). a.fixed) (arrays_of plan.job.program.decls) → IsPlan plan
-is_plan plan allowed code split shared consts =
+pub is_plan : (plan : Plan) → IsInRange plan.options → IsCodeOf plan.job.program plan.code → plan.shared.items ≡ shared_in plan.job.program → plan.consts.items ≡ map (λ (a : Array). a.fixed) (arrays_of plan.job.program.decls) → IsPlan plan
+is_plan plan allowed code shared consts =
     let program = plan.job.program in
     let many : length plan.code.entries ≡ length (invoked_by program) = entries_of_bodies.many program plan.code code ∙ length-map (invoked_by program) (λ (b : Body). b.stmts) in
     record {
@@ -61,7 +60,6 @@ is_plan plan allowed code split shared consts =
       some_epoch = omega (arith, allowed.some_invocation);
       few_epochs = allowed.few_invocations;
       near = allowed.near;
-      split_is = split;
       bodies = entries_of_bodies.many program plan.code code;
       many_shared = ap length shared ∙ length-map (invoked_by program) (is_shared program) ∙ sym many;
       shared = λ b below. ap (λ xs. slice_index_or xs b.body false) shared ∙ shared_there program b (subst (λ n. b.body < n) many below);

@@ -4,7 +4,6 @@ use Rattle.std.specs.Option.{option_map}
 use Rattle.nest_syntax.specs.Among.{Each}
 use Rattle.nest_syntax.specs.Arrays.{Array, arrays_of, sizes_of}
 use Rattle.nest_syntax.specs.Shape.{bodies_of}
-use Rattle.nest_partition.specs.Split.{IsSplitOf}
 use Rattle.word_store.specs.Memory.{HasLayout}
 use Rattle.task_frame.specs.declared.piece.Piece.{Piece}
 use Rattle.sched_cursor.specs.declared.node.At.{At}
@@ -62,7 +61,6 @@ pub record IsPlan (plan : Plan) : Type 0 where
   pub some_epoch : 0 < plan.options.segment
   pub few_epochs : plan.options.segment ≤ 64
   pub near : plan.options.distance ≤ 64
-  pub split_is : IsSplitOf plan.job.program plan.split
   pub bodies : length plan.code.entries ≡ length (bodies_of plan.job.program)
   pub many_shared : length plan.shared.items ≡ length plan.code.entries
   pub shared : (b : Invoked) → b.body < length plan.code.entries → slice_index_or plan.shared.items b.body false ≡ is_do_all plan.job.program b

@@ -239,7 +239,7 @@ impl Desk {
         if self.early.is_some() {
             return turn_at_end(open);
         }
-        match self.cursor.peek(plan.job.checked(), &plan.split) {
+        match self.cursor.peek() {
             Event::End => turn_at_end(open),
             Event::Drain => drain_turn(open),
             Event::Scalar => turn_with_room(open, plan.options.segment, Turn::Scalar),

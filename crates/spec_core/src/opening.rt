@@ -22,7 +22,6 @@ use checkpoint::Checkpoint;
 use epoch_plan::Seen;
 use nest_check::Checked;
 use nest_mean::Job;
-use nest_partition::partition;
 use nest_syntax::{Decl, NoMemory};
 use progress_board::Options;
 use range_sign::Signature;
@@ -41,14 +40,12 @@ pub(crate) fn open_plan(alloc: Global, job: Job, options: Options) -> Result<Pla
     ensures plan { IfOk result (λ plan. IsPlan plan) }
 {
     let code = compile(alloc, job.checked())?;
-    let split = partition(alloc, job.checked())?;
     let shared = shared_bodies(alloc, job.checked())?;
     let consts = consts_of(alloc, job.checked())?;
     Ok(Plan {
         job,
         options,
         code,
-        split,
         shared,
         consts,
     })

@@ -176,7 +176,7 @@ impl Desk {
         match self.cursor.advance(plan.job.checked(), words) {
             Some(place) => self.early = Some(place),
             None => {
-                if self.is_inside(plan) {
+                if self.is_inside() {
                     self.tally.enter();
                 }
             }
@@ -184,14 +184,10 @@ impl Desk {
     }
 
     // Whether the cursor stands in an invocation.
-    fn is_inside(&self, plan: &Plan) -> bool
-        requires { IsPlan plan.now }
+    fn is_inside(&self) -> bool
         ensures { result ≡ is_inside self.now.cursor.at }
     {
-        matches!(
-            self.cursor.peek(plan.job.checked(), &plan.split),
-            Event::Iterate | Event::Close
-        )
+        matches!(self.cursor.peek(), Event::Iterate | Event::Close)
     }
 
     fn open(&mut self, plan: &Plan)

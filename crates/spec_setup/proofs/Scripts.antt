@@ -30,11 +30,11 @@ module _ (arrays : List Array) (words : List ℤ) (c : Cursor) where
 
   or_stays : (r : Result Cursor Trap) → StaysOk c r → Stays c (cursor_or c r)
   or_stays (Ok later) stays = stays
-  or_stays (Err trap) stays = record { nodes = refl; entry = refl; names = refl }
+  or_stays (Err trap) stays = record { nodes = refl; drains = refl; entry = refl; names = refl }
 
   stays_invoking : (a : At) → StaysEvent (invoking c a)
   stays_invoking (at.Before behind) = tt
-  stays_invoking (at.Inside i) = record { nodes = refl; entry = refl; names = refl }
+  stays_invoking (at.Inside i) = record { nodes = refl; drains = refl; entry = refl; names = refl }
 
   stays_kind : (k : Kind) (purpose : Purpose) (b : Iteration) → StaysEvent (by_invocations c (event_of k purpose (λ now. after_event arrays c now) b words c))
   stays_kind kind.Scalar purpose b = or_stays (after_event arrays c words) (stays_after arrays words c)
@@ -51,7 +51,7 @@ module _ {P G : Type 0} (program : Program) (words : List ℤ) (m : Setup Invoke
   there = subst (StaysEvent (arrays_of program.decls) words s.cursor) (sym (is_event s.cursor)) (stays_event (arrays_of program.decls) words s.cursor)
 
   same_script : (later : Cursor) → Stays s.cursor later → restarted program later ≡ restarted program s.cursor
-  same_script later stays = λ i. before_entry (stays.nodes i) (stays.entry i) (opening_scalars program) (stays.names i)
+  same_script later stays = λ i. before_entry (stays.nodes i) (stays.drains i) (stays.entry i) (opening_scalars program) (stays.names i)
 
   moved : (u : ℕ) (move : Move Invoked Cursor P) → FromEvent m s move → restarted program (state_after m s u move).cursor ≡ restarted program s.cursor
   moved u (DoScalar purpose (Some trap) rest) from = refl

@@ -1,4 +1,4 @@
-use Rattle.std.proofs.Common.{◌≡◌, ◌<◌, ◌+◌, sym, ◌∙◌, subst, arith}
+use Rattle.std.proofs.Common.{◌<◌, ◌+◌, sym, ◌∙◌, subst}
 use Rattle.std.specs.Prelude.{IfSome}
 use Rattle.sched_cursor.proofs.Numbers.{Numbers, none_numbered, numbered_next, not_numbered}
 use Rattle.sched_cursor.proofs.start.scalar_names.Goals.{in-Some, in_default}

@@ -1,7 +1,6 @@
 use Rattle.std.proofs.Common.{map, ap, subst, ◌∙◌}
 use Rattle.nest_syntax.specs.declared.tree.Program.{Program}
 use Rattle.nest_syntax.specs.Arrays.{Array, arrays_of}
-use Rattle.nest_partition.specs.Split.{IsSplitOf}
 use Rattle.task_code.specs.CodeOf.{IsCodeOf}
 use Rattle.spec_core.specs.Shared.{shared_in}
 use Rattle.spec_core.proofs.Compiled.{code_inside}
@@ -14,6 +13,5 @@ returns-clause-inside c = code_inside c.args.job.program c.in_ok-code.code (subs
 pub returns-clause-plan : goal.returns-clause-plan
 returns-clause-plan c = is_plan _ c.requires
     (subst (λ (p : Program). IsCodeOf p c.in_ok-code.code) c.checked.ensures.same c.in_ok-code.ensures)
-    (subst (λ (p : Program). IsSplitOf p c.in_ok-split.split) c.checked-2.ensures.same c.in_ok-split.ensures)
-    (c.in_ok-shared.ensures ∙ ap shared_in c.checked-3.ensures.same)
-    (c.in_ok-consts.ensures ∙ ap (λ (p : Program). map (λ (a : Array). a.fixed) (arrays_of p.decls)) c.checked-4.ensures.same)
+    (c.in_ok-shared.ensures ∙ ap shared_in c.checked-2.ensures.same)
+    (c.in_ok-consts.ensures ∙ ap (λ (p : Program). map (λ (a : Array). a.fixed) (arrays_of p.decls)) c.checked-3.ensures.same)
