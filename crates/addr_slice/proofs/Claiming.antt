@@ -1,8 +1,8 @@
 -- The claims of a set that steps were put into are those of the steps.
-use Rattle.std.proofs.Common.{ℕ, zero, suc, ◌+◌, ◌-◌, ◌^◌, ◌<◌, ◌≤◌, Bool, true, false, ◌&&◌, ◌||◌, ◌==◌, nat_le, nat_lt, min, List, [], ◌∷◌, set, length, replicate, sum, ◌≡◌, ◌⊎◌, inl, inr, slice_index_or, ⊎_elim, refl, ap, sym, ◌∙◌, subst, arith}
+use Rattle.std.proofs.Common.{ℕ, zero, suc, ◌+◌, ◌-◌, ◌^◌, ◌<◌, ◌≤◌, Bool, true, false, ◌&&◌, ◌||◌, ◌==◌, nat_le, nat_lt, min, List, [], ◌∷◌, set, length, sum, ◌≡◌, ◌⊎◌, inl, inr, slice_index_or, ⊎_elim, refl, ap, sym, ◌∙◌, subst, arith}
 use Rattle.std.proofs.Math.Nat.{min-eq_left, min-eq_right, min-le_right}
-use Rattle.std.proofs.lemmas.Bool.{cases_eq, cases_lt, eq-eqb, ne_eqb}
-use Rattle.std.proofs.lemmas.List.{get_or-set_same, get_or-set_other, length-replicate, ext_get_or}
+use Rattle.std.proofs.lemmas.Bool.{and_from, cases_eq, cases_lt, eq-eqb, le-leb, lt-ltb, ne_eqb}
+use Rattle.std.proofs.lemmas.List.{get_or-set_same, get_or-set_other, length-replicate, length-set, ext_get_or}
 use Rattle.std.proofs.lemmas.List.FromFn.{length-map-range_with_len}
 use Rattle.nest_syntax.specs.Arrays.{word_number}
 use Rattle.claim_walk.specs.Walk.{Step, Passes, Touches, Sweeps, same_kind, claims_word, is_claimed}
@@ -11,6 +11,7 @@ use Rattle.addr_slice.specs.Slice.{flags_met, claims_of_steps}
 use Rattle.addr_slice.specs.Met.{with_step, with_steps, one_more, with_cost}
 use Rattle.addr_slice.proofs.Held.{even_still, as_many}
 use Rattle.addr_slice.proofs.Flags.{flag_at}
+use Rattle.addr_slice.proofs.Sets.{is_set-within, none_set}
 
 set_has : (flags : List Bool) (n k : ℕ) → k < length flags → is_set (set flags n true) k ≡ ((k == n) || is_set flags k)
 set_has flags n k there = ⊎_elim
@@ -59,6 +60,33 @@ stretch_has claims first (suc n) kind w write even there =
     ∙ ap (λ b. (same_kind kind write && (w == first + n)) || b) (stretch_has claims first n kind w write even there)
     ∙ by_kind (same_kind kind write) (w == first + n) (in_stretch first n w) (in_stretch first (suc n) w) (has claims w write) (more_stretch first n w)
 
+-- behind a stretch all its words are claimed
+pub stretch_claimed : (claims : Claimed) (first n : ℕ) (kind : Bool) → IsEven claims → first + n ≤ words_of claims → (word : ℕ) → first ≤ word → word < first + n → has (with_stretch claims first n kind) word kind ≡ true
+stretch_claimed claims first n kind even room word from below =
+    stretch_has claims first n kind word kind even (omega (arith, room, below))
+    ∙ ap (λ b. (b && in_stretch first n word) || has claims word kind) (same kind)
+    ∙ ap (λ b. b || has claims word kind) (and_from (nat_le first word) (nat_lt word (first + n)) (le-leb first word from) (lt-ltb word (first + n) below))
+  where
+    same : (kind : Bool) → same_kind kind kind ≡ true
+    same true = refl
+    same false = refl
+
+-- a stretch of which all words are claimed adds nothing
+set_again : (flags : List Bool) (n : ℕ) → is_set flags n ≡ true → set flags n true ≡ flags
+set_again flags n is = ext_get_or false (set flags n true) flags (length-set flags n true) (λ k there. ⊎_elim
+    (λ (e : k ≡ n). ap (is_set (set flags n true)) e ∙ get_or-set_same flags n true false (is_set-within flags n is) ∙ sym (ap (is_set flags) e ∙ is))
+    (λ (apart : k ≡ n → ⊥). get_or-set_other flags n k true false apart)
+    (cases_eq k n))
+
+claim_again : (claims : Claimed) (n : ℕ) (kind : Bool) → has claims n kind ≡ true → with_claim claims n kind ≡ claims
+claim_again claims n true is = λ i. record { reads = claims.reads; writes = set_again claims.writes n is i }
+claim_again claims n false is = λ i. record { reads = set_again claims.reads n is i; writes = claims.writes }
+
+pub stretch_again : (claims : Claimed) (first n : ℕ) (kind : Bool) → ((word : ℕ) → first ≤ word → word < first + n → has claims word kind ≡ true) → with_stretch claims first n kind ≡ claims
+stretch_again claims first zero kind all = refl
+stretch_again claims first (suc n) kind all =
+    ap (λ c. with_claim c (first + n) kind) (stretch_again claims first n kind (λ word from below. all word from (omega (arith, below)))) ∙ claim_again claims (first + n) kind (all (first + n) (omega arith) (omega arith))
+
 -- steps
 module _ (sizes : List ℕ) where
   step_even : (claims : Claimed) (step : Step) → IsEven claims → IsEven (with_step sizes claims step)
@@ -100,11 +128,6 @@ module _ (sizes : List ℕ) where
   pub steps_room : (claims : Claimed) (steps : List Step) → words_of (with_steps sizes claims steps) ≡ words_of claims
   steps_room claims [] = refl
   steps_room claims (step ∷ steps) = steps_room (with_step sizes claims step) steps ∙ step_room claims step
-
-none_set : (n w : ℕ) → is_set (replicate n false) w ≡ false
-none_set zero w = refl
-none_set (suc n) zero = refl
-none_set (suc n) (suc w) = none_set n w
 
 none_has : (n w : ℕ) (write : Bool) → has (no_claims n) w write ≡ false
 none_has n w true = none_set n w

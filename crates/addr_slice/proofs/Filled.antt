@@ -1,11 +1,11 @@
 -- The flags of a set against its rows, where the rows that aren't 0 are kept as a set of their own.
 use Rattle.std.proofs.Common.{◌≡◌, ℕ, ◌+◌, ◌-◌, ◌*◌, ◌/◌, ◌%◌, ◌<◌, ◌≤◌, Bool, true, false, ◌||◌, Some, None, List, length, get_or, set, replicate, nat_lt, ⊎_elim, refl, ap, sym, ◌∙◌, arith}
 use Rattle.std.proofs.lemmas.Bool.{lt-ltb, ltb-true, ltb-false, cases_lt, cases_eq}
-use Rattle.std.proofs.lemmas.List.{get_or_past, get_or-set_same, get_or-set_other, get_or-replicate, length-replicate, length-set}
+use Rattle.std.proofs.lemmas.List.{get_or_past, get_or-set_same, get_or-set_other, length-replicate, length-set}
 use Rattle.addr_slice.specs.Claims.{IsNext, is_set, AreEven}
 use Rattle.addr_slice.specs.WordSet.{has_bit, in_rows, flags_of, Puts, IsFilled}
 use Rattle.addr_slice.proofs.Rows.{in_rows-of, has_bit-zero, next_in_rows-skipped}
-use Rattle.addr_slice.proofs.Sets.{flag_in_rows, in_rows-empty}
+use Rattle.addr_slice.proofs.Sets.{flag_in_rows, in_rows-empty, none_set}
 
 module _ (count : ℕ) (rows : List ℕ) (filled : List Bool) (kept : IsFilled count rows filled) where
   -- a flag is set where the number is in the rows
@@ -71,9 +71,6 @@ filled_empty count rows few few_rows a_row_each empty n same = record {
   none_behind = λ k behind. in_rows-empty rows empty k;
   exact = λ row. none_set n row ∙ sym (ap (nat_lt 0) (empty row));
 }
-  where
-    none_set : (n row : ℕ) → get_or (replicate n false) row false ≡ false
-    none_set n row = ⊎_elim (get_or-replicate n row false false) (λ past. get_or_past (replicate n false) row false (omega (arith, length-replicate n false))) (cases_lt row n)
 
 -- three sets of no number
 pub none_even : (n : ℕ) (reads writes either : List Bool) → reads ≡ replicate n false → writes ≡ replicate n false → either ≡ replicate n false → n ≤ 1048576 → AreEven reads writes either
@@ -85,4 +82,4 @@ none_even n reads writes either no_reads no_writes none few = record {
 }
   where
     unset : (flags : List Bool) → flags ≡ replicate n false → (word : ℕ) → is_set flags word ≡ false
-    unset flags e word = ap (λ f. is_set f word) e ∙ ⊎_elim (get_or-replicate n word false false) (λ past. get_or_past (replicate n false) word false (omega (arith, length-replicate n false))) (cases_lt word n)
+    unset flags e word = ap (λ f. is_set f word) e ∙ none_set n word

@@ -30,7 +30,7 @@ pub Each-along : (P Q : Claim → Type 0) (list : List Claim) → ((c : Claim) �
 Each-along P Q [] go h = tt
 Each-along P Q (c ∷ list) go h = (go c h.0, Each-along P Q list go h.1)
 
-set-stays : (flags : List Bool) (n k : ℕ) → is_set flags k ≡ true → is_set (set flags n true) k ≡ true
+pub set-stays : (flags : List Bool) (n k : ℕ) → is_set flags k ≡ true → is_set (set flags n true) k ≡ true
 set-stays flags n k is = ⊎_elim
     (λ (e : k ≡ n). ap (is_set (set flags n true)) e ∙ get_or-set_same flags n true false (omega (arith, e, is_set-within flags k is)))
     (λ (apart : k ≡ n → ⊥). get_or-set_other flags n k true false apart ∙ is)

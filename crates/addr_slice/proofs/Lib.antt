@@ -1,7 +1,7 @@
 pub mod Rows
 pub mod Sets
 pub mod Filled
-pub mod Spanned
+pub mod Marked
 pub mod Held
 pub mod Clashes
 pub mod Meeting

@@ -117,3 +117,7 @@ get_or-zeros n row = let none : ℕ = 0 in ⊎_elim (get_or-replicate n row none
 -- a flag that is set is one of the list
 pub is_set-within : (flags : List Bool) (n : ℕ) → is_set flags n ≡ true → n < length flags
 is_set-within flags n is = let not_past : length flags ≤ n → ⊥ = λ past. true≢false (sym is ∙ get_or_past flags n false past) in omega arith
+
+-- no number is set
+pub none_set : (n k : ℕ) → is_set (replicate n false) k ≡ false
+none_set n k = ⊎_elim (get_or-replicate n k false false) (λ past. get_or_past (replicate n false) k false (omega (arith, length-replicate n false))) (cases_lt k n)

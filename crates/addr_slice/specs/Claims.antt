@@ -44,6 +44,10 @@ abbrev pub with_stretch : Claimed → ℕ → ℕ → Bool → Claimed
 with_stretch claims first zero write = claims
 with_stretch claims first (suc n) write = with_claim (with_stretch claims first n write) (first + n) write
 
+-- each word from the first to the last is claimed
+abbrev pub AreClaimed : Claimed → ℕ → ℕ → Bool → Type 0
+AreClaimed claims first last write = (word : ℕ) → first ≤ word → word ≤ last → has claims word write ≡ true
+
 -- the same claims and those of a list
 abbrev pub with_claims : Claimed → List Claim → Claimed
 with_claims claims [] = claims

@@ -1,5 +1,5 @@
 -- Sets of numbers as bits: number n is bit `n % 64` of row `n / 64`.
-use Rattle.std.specs.Prelude.{◌≡◌, ◌≢◌, ℕ, ◌*◌, ◌/◌, ◌%◌, ◌<◌, ◌≤◌, ◌⊎◌, Bool, true, false, ◌==◌, nat_lt, List, length, map, slice_index}
+use Rattle.std.specs.Prelude.{◌≡◌, ◌≢◌, ℕ, ◌*◌, ◌/◌, ◌%◌, ◌<◌, ◌≤◌, Bool, true, false, ◌==◌, nat_lt, List, length, map, slice_index}
 use Rattle.std.specs.Int.{bit_at}
 use Rattle.std.specs.List.{range_with_len}
 use Rattle.addr_slice.specs.Claims.{is_set}
@@ -44,16 +44,13 @@ pub record IsFilled (count : ℕ) (rows : List ℕ) (filled : List Bool) : Type 
   pub none_behind : (n : ℕ) → count ≤ n → in_rows rows n ≡ false
   pub exact : (row : ℕ) → is_set filled row ≡ nat_lt 0 (slice_index rows row)
 
--- the rows below the first and from the end on are 0
-abbrev pub AreEmptyOutside : List ℕ → ℕ → ℕ → Type 0
-AreEmptyOutside rows first end = (row : ℕ) → (row < first) ⊎ (end ≤ row) → slice_index rows row ≡ 0
+-- all words from the first to the last are in a set
+abbrev pub AreSet : List Bool → ℕ → ℕ → Type 0
+AreSet flags first last = (word : ℕ) → first ≤ word → word ≤ last → is_set flags word ≡ true
 
--- The same of a set of which only is kept where the rows that aren't 0 begin and end.
-pub record IsSpanned (count : ℕ) (rows : List ℕ) (first end : ℕ) : Type 0 where
-  pub few : count ≤ 1048576
-  pub few_rows : length rows ≤ 16384
-  pub a_row_each : count ≤ 64 * length rows
-  pub begins : first ≤ length rows
-  pub ends : end ≤ length rows
-  pub none_behind : (n : ℕ) → count ≤ n → in_rows rows n ≡ false
-  pub outside : AreEmptyOutside rows first end
+-- What holds of a set that knows stretches which are in it as a whole: from where one starts, all words up to the next end
+-- are in the set.
+pub record IsMarked (flags starts ends : List Bool) : Type 0 where
+  pub a_start_each : length starts ≡ length flags
+  pub an_end_each : length ends ≡ length flags
+  pub whole : (first word : ℕ) → is_set starts first ≡ true → first ≤ word → ((k : ℕ) → first ≤ k → k < word → is_set ends k ≡ false) → is_set flags word ≡ true

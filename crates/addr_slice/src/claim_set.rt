@@ -1,8 +1,9 @@
 ghost use Rattle.std.specs.Prelude.{◌≡◌, ◌<◌, ◌≤◌, ◌+◌, ◌↔◌, IsTrue, IfOk, IfSome, sum};
 ghost use Rattle.word_store.specs.Memory.{most_words};
-ghost use Rattle.addr_slice.specs.Claims.{words_of, has, is_claimed, no_claims, with_claim, with_stretch, IsNext, Clash};
+ghost use Rattle.addr_slice.specs.Claims.{words_of, has, is_claimed, no_claims, with_claim, with_stretch, AreClaimed, IsNext, IsEven, Clash};
 
 use crate::deep_set::DeepSet;
+use crate::stretch_set::StretchSet;
 use nest_syntax::NoMemory;
 use std::alloc::Global;
 use std::marker::Model;
@@ -11,8 +12,8 @@ use std::marker::Model;
 /// program, in order of declaration. No call but `with_room` takes memory.
 #[derive(Debug, Drop)]
 pub struct Claims {
-    reads: DeepSet,
-    writes: DeepSet,
+    reads: StretchSet,
+    writes: StretchSet,
     // What is claimed at all: a walk then passes over what neither of the two has.
     either: DeepSet,
 }
@@ -29,7 +30,7 @@ impl Model for Claims {
 }
 
 impl Claims {
-    /// No claim, with room for the words of arrays of these lengths, at most 1,048,576 together. Takes three bits for
+    /// No claim, with room for the words of arrays of these lengths, at most 1,048,576 together. Takes seven bits for
     /// each.
     pub fn with_room(alloc: Global, lengths: &[u64]) -> Result<Claims, NoMemory>
         requires { sum lengths.now ≤ most_words }
@@ -37,8 +38,8 @@ impl Claims {
     {
         let words = lengths.iter().sum::<u64>() as usize;
         Ok(Claims {
-            reads: DeepSet::empty(alloc, words)?,
-            writes: DeepSet::empty(alloc, words)?,
+            reads: StretchSet::empty(alloc, words)?,
+            writes: StretchSet::empty(alloc, words)?,
             either: DeepSet::empty(alloc, words)?,
         })
     }
@@ -88,15 +89,49 @@ impl Claims {
     }
 
     /// Claims so many words that there is room for, from the first on, for writing or for reading. Costs as much as there
-    /// are.
+    /// are, but a constant where they were claimed so since all was forgotten.
     pub(crate) fn add_all(&mut self, first: u32, count: u32, write: bool)
         requires inside { first + count ≤ words_of self.old }
         requires few { words_of self.old ≤ most_words }
         ensures claims { self.new ≡ with_stretch self.old first count write }
         ensures room { words_of self.new ≡ words_of self.old }
     {
+        if count == 0 {
+            return;
+        }
+        let last = first + (count - 1);
+        if self.is_whole(first, last, write) {
+            return;
+        }
         for k in 0..count {
             self.add(first + k, write);
+        }
+        self.mark_whole(first, last, write);
+    }
+
+    // Whether it is known that all words from the first to the last are claimed.
+    fn is_whole(&self, first: u32, last: u32, write: bool) -> bool
+        ensures known { IsTrue result → AreClaimed self.now first last write }
+        ensures even { IsEven self.now }
+    {
+        if write {
+            self.writes.is_whole(first as usize, last as usize)
+        } else {
+            self.reads.is_whole(first as usize, last as usize)
+        }
+    }
+
+    // Makes known that all words from the first to the last are claimed.
+    fn mark_whole(&mut self, first: u32, last: u32, write: bool)
+        requires order { first ≤ last }
+        requires within { last < words_of self.old }
+        requires claimed { AreClaimed self.old first last write }
+        ensures { self.new ≡ self.old }
+    {
+        if write {
+            self.writes.mark_whole(first as usize, last as usize);
+        } else {
+            self.reads.mark_whole(first as usize, last as usize);
         }
     }
 

@@ -11,7 +11,7 @@ use std::marker::Model;
 /// rows that aren't 0 are a set of their own, with its summary: an empty stretch is passed 262,144 numbers at a time, and
 /// to forget all costs by the rows that are filled.
 #[derive(Debug, Drop)]
-pub(crate) struct DeepSet {
+pub struct DeepSet {
     count: usize,
     rows: Vec<u64>,
     filled: WordSet,
@@ -29,7 +29,7 @@ impl Model for DeepSet {
 }
 
 impl DeepSet {
-    pub(crate) fn empty(alloc: Global, count: usize) -> Result<DeepSet, NoMemory>
+    pub fn empty(alloc: Global, count: usize) -> Result<DeepSet, NoMemory>
         requires { count ≤ 1048576 }
         ensures { IfOk result (λ made. made ≡ replicate count false) }
     {
@@ -43,20 +43,22 @@ impl DeepSet {
         })
     }
 
-    pub(crate) fn len(&self) -> usize
+    /// Below which count the numbers are.
+    pub fn len(&self) -> usize
         ensures len { result ≡ length self.now }
         ensures few { length self.now ≤ 1048576 }
     {
         self.count
     }
 
-    pub(crate) fn has(&self, number: usize) -> bool
+    pub fn has(&self, number: usize) -> bool
         ensures { result ≡ is_set self.now number }
     {
         number < self.count && in_rows(&self.rows, number)
     }
 
-    pub(crate) fn insert(&mut self, number: usize)
+    /// Puts a number into the set. A constant cost.
+    pub fn insert(&mut self, number: usize)
         requires { number < length self.old }
         ensures { self.new ≡ slice_set self.old number true }
     {
@@ -64,7 +66,8 @@ impl DeepSet {
         self.filled.insert(number / ROW);
     }
 
-    pub(crate) fn next_from(&self, from: usize) -> Option<usize>
+    /// The least number of the set that isn't below `from`. A constant cost.
+    pub fn next_from(&self, from: usize) -> Option<usize>
         ensures { IsNext (is_set self.now) from result }
     {
         let row = from / ROW;
@@ -78,7 +81,8 @@ impl DeepSet {
         Some(row * ROW + least_bit(self.rows[row]))
     }
 
-    pub(crate) fn clear(&mut self)
+    /// Forgets all numbers. Costs as much as there are.
+    pub fn clear(&mut self)
         ensures { self.new ≡ replicate (length self.old) false }
     {
         empty_filled(&mut self.rows, &self.filled);

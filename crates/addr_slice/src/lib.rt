@@ -4,15 +4,18 @@
 //! every access that it can make, whatever words it reads.
 #![tactic(auto)]
 
+mod accesses;
 mod bits;
 mod claim_set;
 mod deep_set;
+mod expressions;
 mod law;
-mod row_set;
 mod slices;
+mod statements;
+mod stretch_set;
 mod word_set;
 
 pub use claim_set::Claims;
+pub use deep_set::DeepSet;
 pub use law::{claims_are_of_scope, claims_hold, test_tells_clash};
-pub use row_set::RowSet;
 pub use slices::{claims, claims_and_cost};

@@ -5,21 +5,21 @@ ghost use Rattle.range_sign.specs.Overlap.{any_below, writes_into, conflict_at};
 ghost use Rattle.range_sign.specs.Exact.{Exact, holds};
 
 use crate::signature::{MOST_ARRAYS, Signature};
-use addr_slice::RowSet;
+use addr_slice::DeepSet;
 use nest_syntax::NoMemory;
 use std::alloc::Global;
 use std::marker::Model;
 
-/// A signature of the very words: two bits for each word. `note` costs a constant, `clear` the words from the first that was
-/// noted to the last, 64 at a step, and `overlap` the same and one step an array.
+/// A signature of the very words: two bits for each word. `note` costs a constant, `clear` as much as was noted, and
+/// `overlap` the same and one step an array.
 #[derive(Debug, Drop)]
 pub struct ExactSign {
     /// How many words each array has.
     sizes: Vec<u64>,
     /// The number of each array's first word, where words are numbered over all arrays.
     starts: Vec<usize>,
-    reads: RowSet,
-    writes: RowSet,
+    reads: DeepSet,
+    writes: DeepSet,
 }
 
 impl Model for ExactSign {
@@ -67,7 +67,13 @@ impl ExactSign {
 }
 
 /// Whether one of the numbers from `start` on, as many as `count`, is in the first set and in the second or the third.
-fn has_common(first: &RowSet, second: &RowSet, third: &RowSet, start: usize, count: usize) -> bool
+fn has_common(
+    first: &DeepSet,
+    second: &DeepSet,
+    third: &DeepSet,
+    start: usize,
+    count: usize,
+) -> bool
     requires { start + count ≤ 1048576 }
     ensures { result ≡ any_below (λ place. is_set first.now (start + place) && (is_set second.now (start + place) || is_set third.now (start + place))) count }
 {
@@ -85,7 +91,7 @@ fn has_common(first: &RowSet, second: &RowSet, third: &RowSet, start: usize, cou
     false
 }
 
-fn is_in_either(first: &RowSet, second: &RowSet, word: usize) -> bool
+fn is_in_either(first: &DeepSet, second: &DeepSet, word: usize) -> bool
     ensures { result ≡ (is_set first.now word || is_set second.now word) }
 {
     first.has(word) || second.has(word)
@@ -121,8 +127,8 @@ impl Signature for ExactSign {
         Ok(ExactSign {
             sizes: Vec::from_slice(alloc, lengths)?,
             starts,
-            reads: RowSet::empty(alloc, count)?,
-            writes: RowSet::empty(alloc, count)?,
+            reads: DeepSet::empty(alloc, count)?,
+            writes: DeepSet::empty(alloc, count)?,
         })
     }
 
