@@ -44,7 +44,7 @@ map_there f (y ∷ ys) zero x d there = ap f (let same : y ≡ x = cc in same)
 map_there f (y ∷ ys) (suc n) x d there = map_there f ys n x d there
 
 -- the plan's list tells which turns are shared
-shared_there : (program : Program) (b : Invoked) → b.body < length (invoked_by program) → slice_index_or (shared_in program) b.body false ≡ is_do_all program b
+pub shared_there : (program : Program) (b : Invoked) → b.body < length (invoked_by program) → slice_index_or (shared_in program) b.body false ≡ is_do_all program b
 shared_there program b below =
     let found = found_inside (invoked_by program) b.body below in
     map_there (is_shared program) (invoked_by program) b.body found.0 false found.1

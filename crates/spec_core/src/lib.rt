@@ -33,4 +33,5 @@ pub use laws::{
     histories_commit_truly, histories_count_steps, histories_end_as_job,
     histories_give_up_for_cause, histories_give_up_for_trap, histories_give_up_once,
 };
+pub use shared::shared_bodies;
 pub use spec::Spec;

@@ -12,7 +12,7 @@ use task_code::{Body, bodies_of};
 
 /// Of each body whether the turns of its invocations are shared out: those of a loop that is DoAll, and the one turn of an
 /// array statement.
-pub(crate) fn shared_bodies(alloc: Global, checked: &Checked) -> Result<Vec<bool>, NoMemory>
+pub fn shared_bodies(alloc: Global, checked: &Checked) -> Result<Vec<bool>, NoMemory>
     ensures { IfOk result (λ shared. shared.items ≡ shared_in checked.now) }
 {
     let found = bodies_of(alloc, checked.program())?;
