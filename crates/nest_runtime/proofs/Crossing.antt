@@ -101,7 +101,7 @@ node_send =
 cursor_send : IsSend cursor.the_row
 cursor_send =
     let nodes = Vec-send node.the_row node_send in
-    view_send cursor_inside.the_row _ _ _ _ (declared_send cursor_inside.the_type (search sendable depth 20, (next.the_send, (at.the_send, (region.the_send, (scalars.the_send, (search (sendable, crosses) depth 30, (search sendable depth 20, tt))))))))
+    view_send cursor_inside.the_row _ _ _ _ (declared_send cursor_inside.the_type (search sendable depth 20, (search (sendable, crosses) depth 30, (next.the_send, (at.the_send, (region.the_send, (scalars.the_send, (search (sendable, crosses) depth 30, (search sendable depth 20, tt)))))))))
 
 -- the engine without barriers
 desk_send : IsSend desk.the_row
