@@ -1,3 +1,4 @@
 pub mod Belows
+mod Made
 mod Meets
 mod Words
