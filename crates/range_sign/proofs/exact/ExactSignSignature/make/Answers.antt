@@ -9,4 +9,4 @@ invariant_of-result c =
     let index = c.loop-length.length-index in
     let whole : index ≡ length c.args.lengths.now = omega (arith, c.loop-length-test.false, c.loop-length.auto.length-index-end) in
     subst (λ (items : List ℕ). IsLaidOut (record { sizes = items; reads = c.in_ok-empty.field-0; writes = c.in_ok-empty-2.field-0 }) starts) (sym c.in_ok-from_slice.ensures.items)
-        (laid_out c.args.lengths.now starts _ _ c.loop-length.count index whole (omega (arith, c.if-lengths-gt-MOST_ARRAYS.false)) c.requires.words c.loop-length.invariant.total c.loop-length.invariant.as_many c.loop-length.invariant.start_of c.in_ok-empty.ensures c.in_ok-empty-2.ensures)
+    (laid_out c.args.lengths.now starts _ _ c.loop-length.count index whole (omega (arith, c.if-lengths-gt-MOST_ARRAYS.false)) c.requires.words c.loop-length.invariant.total c.loop-length.invariant.as_many c.loop-length.invariant.start_of c.in_ok-empty.ensures c.in_ok-empty-2.ensures)
