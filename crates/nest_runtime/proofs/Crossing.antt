@@ -123,7 +123,7 @@ spec_desk_send : IsSend spec_desk.the_row
 spec_desk_send = declared_send spec_desk.the_type (cursor_send, (search (sendable, crosses, place.the_send) depth 20, (epochs.the_send, (search sendable depth 20, (spec_tally.the_send, tt)))))
 
 spec_plan_send : IsSend spec_plan.the_row
-spec_plan_send = declared_send spec_plan.the_type (job_send, (options.the_send, (code.the_send, (split.the_send, (search (sendable, crosses) depth 20, (search (sendable, crosses) depth 20, tt))))))
+spec_plan_send = declared_send spec_plan.the_type (job_send, (options.the_send, (code.the_send, (search (sendable, crosses) depth 20, (search (sendable, crosses) depth 20, tt)))))
 
 module _ (G : RattleType) (ghosts : Ghosts G.Denot) (sends : IsSend G) where
   spec_table_send : IsSend (spec_table.the_row G ghosts)
