@@ -36,13 +36,18 @@ fn answers(rt: &HostRuntime) -> Option<String> {
     let parts = str::from_utf8(bytes.as_slice()).ok()?;
     let mut text = String::new(rt.alloc());
     for part in parts.split("\n\n") {
-        let (nest, rows) = part.split_once("steps\n")?;
-        writeln!(text, "{nest}steps").ok()?;
-        let mut machine = open(rt.alloc(), nest.as_bytes())?;
-        add_rows(&mut machine, rows, &mut text)?;
-        writeln!(text).ok()?;
+        add_part(rt.alloc(), part, &mut text)?;
     }
     Some(text)
+}
+
+/// Appends a nest and its rows, each with what comes of it.
+fn add_part(alloc: Global, part: &str, text: &mut String) -> Option<()> {
+    let (nest, rows) = part.split_once("steps\n")?;
+    writeln!(text, "{nest}steps").ok()?;
+    let mut machine = open(alloc, nest.as_bytes())?;
+    add_rows(&mut machine, rows, text)?;
+    writeln!(text).ok()
 }
 
 /// A machine on a nest.

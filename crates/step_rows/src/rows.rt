@@ -1,12 +1,13 @@
 ghost use Rattle.std.specs.Prelude.{◌≡◌, ◌<◌};
 ghost use Rattle.progress_board.specs.Actors.{actors_of};
 
+use domore_core::Domore;
 use progress_board::{Ask, Given, Machine, Row, Work};
 use std::fmt::Write;
 use task_frame::{Piece, work};
 
 /// Appends the rows, each with what comes of it.
-pub fn add_rows<M: Machine>(machine: &mut M, rows: &str, text: &mut String) -> Option<()> {
+pub fn add_rows(machine: &mut Domore, rows: &str, text: &mut String) -> Option<()> {
     let mut kept = None;
     for row in rows.lines() {
         let (actor, word) = row.split_once(' ')?;
@@ -27,15 +28,15 @@ pub fn add_rows<M: Machine>(machine: &mut M, rows: &str, text: &mut String) -> O
 }
 
 /// How many actors there are.
-fn actors<M: Machine>(machine: &M) -> u8
-    ensures { result ≡ actors_of (M.options_of machine.now) }
+fn actors(machine: &Domore) -> u8
+    ensures { result ≡ actors_of machine.now.options }
 {
     machine.options().workers + 2
 }
 
 /// The piece that an actor is asked to work on.
-fn asked_piece<M: Machine>(machine: &M, actor: u8) -> Option<Piece>
-    requires { actor < actors_of (M.options_of machine.now) }
+fn asked_piece(machine: &Domore, actor: u8) -> Option<Piece>
+    requires { actor < actors_of machine.now.options }
 {
     match machine.ask(actor) {
         Ask::Ready(Work::Hop(piece)) => Some(piece),
@@ -44,8 +45,8 @@ fn asked_piece<M: Machine>(machine: &M, actor: u8) -> Option<Piece>
 }
 
 /// What the word of a row says that an actor has done.
-fn given_of<M: Machine>(machine: &M, actor: u8, word: &str, kept: &Option<Piece>) -> Option<Given>
-    requires { actor < actors_of (M.options_of machine.now) }
+fn given_of(machine: &Domore, actor: u8, word: &str, kept: &Option<Piece>) -> Option<Given>
+    requires { actor < actors_of machine.now.options }
 {
     match word {
         "piece" => Some(Given::Hop(work(asked_piece(machine, actor)?))),
@@ -74,8 +75,8 @@ fn row_of(name: &str) -> Option<Row> {
 }
 
 /// Gives what an actor has done, and appends what comes of it.
-fn add_made<M: Machine>(machine: &mut M, actor: u8, given: Given, text: &mut String) -> Option<()>
-    requires { actor < actors_of (M.options_of machine.old) }
+fn add_made(machine: &mut Domore, actor: u8, given: Given, text: &mut String) -> Option<()>
+    requires { actor < actors_of machine.old.options }
 {
     match machine.give(actor, given) {
         Ok(made) => write!(text, " {:?} {}", made.row, made.number).ok(),
@@ -87,7 +88,7 @@ fn add_made<M: Machine>(machine: &mut M, actor: u8, given: Given, text: &mut Str
 }
 
 /// Appends what each actor is asked for.
-fn add_asked<M: Machine>(machine: &M, text: &mut String) -> Option<()> {
+fn add_asked(machine: &Domore, text: &mut String) -> Option<()> {
     write!(text, ";").ok()?;
     for actor in 0..actors(machine) {
         add_answer(&machine.ask(actor), text)?;
