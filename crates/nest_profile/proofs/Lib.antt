@@ -1,0 +1,13 @@
+mod Blaming
+mod Claimed
+mod Courses
+mod Crossing
+mod Cutting
+mod Found
+mod Iterating
+mod Meeting
+mod Rows
+mod Scalars
+mod Standing
+mod Turned
+mod Walking
