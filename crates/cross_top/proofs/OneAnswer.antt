@@ -19,7 +19,7 @@ use Rattle.cross_words.specs.declared.call.Action.{Action}
 use Rattle.cross_words.specs.declared.call.Action.TheVariants.{Plain, Check, Deps, Alone, Replay, Profile, Gen, Big, Run}
 use Rattle.cross_words.specs.declared.call.Call.{Call}
 use Rattle.cross_top.proofs.Textual.{ended_same}
-use Rattle.cross_top.specs.Answers.{Answer, ended, told, told_steps, done_text, job_of, AnswersRun, AnswersPlain, AnswersAlone, AnswersThreads, AnswersWords, AnswersData, AnswersProgram, AnswersNest, AnswersInput, too_long, a_text, AnswersCall, is_gen, runs_engine, AreOne, OneAnswer, AnswersSteps, ran, not_enabled, AnswersActors, AnswersReplay, RefuseSameStep}
+use Rattle.cross_top.specs.Answers.{Answer, ended, told, told_steps, done_text, job_of, AnswersRun, AnswersPlain, AnswersAlone, AnswersThreads, AnswersWords, AnswersData, AnswersProgram, AnswersNest, AnswersInput, too_long, a_text, AnswersCall, is_gen, runs_engine, AreOne, OneAnswer, AnswersSteps, ran, not_enabled, AnswersActors, AnswersReplay, AnswersProfile, RefuseSameStep, AgreeApart}
 
 -- a run of a call tells its steps
 steps_told : (call : Call) (program : Program) (facts : Facts) (history : List ℕ) (o : Outcome) → (told call program facts history o).history ≡ told_steps call history
@@ -100,29 +100,29 @@ module _ (due : FactsAreDue) (one_nest : (input : List ℕ) (said other : Result
       one_actors due call answer other steps same (job_of program words) is'.said
       (subst (λ said. AnswersActors call (job_of program words) said answer) (one_steps input call.options.workers is.said is'.said is.says is'.says) is.answers) is'.answers
 
-  of_program : (action : Action) (call : Call) (input : List ℕ) (program : Program) (answer other : Answer) → answer.history ≡ other.history → (action ≡ Replay → RefuseSameStep answer other) → AnswersProgram action call input program answer → AnswersProgram action call input program other → AreOne action call answer other
+  of_program : (action : Action) (call : Call) (input : List ℕ) (program : Program) (answer other : Answer) → answer.history ≡ other.history → AgreeApart action answer other → AnswersProgram action call input program answer → AnswersProgram action call input program other → AreOne action call answer other
   of_program Plain call input program answer other steps same is is' = of_data Plain call (AnswersPlain program) (one_plain call program) input program answer other steps is is'
   of_program Check call input program answer other steps same is is' = inl (is ∙ sym is')
   of_program Deps call input program answer other steps same is is' = inl (is ∙ sym is')
   of_program Alone call input program answer other steps same is is' = of_data Alone call (AnswersAlone call program) (one_alone due Alone refl call program) input program answer other steps is is'
   of_program Big call input program answer other steps same is is' = of_data Big call (AnswersAlone call program) (one_alone due Big refl call program) input program answer other steps is is'
   of_program Gen call input program answer other steps same is is' = absurd is
-  of_program Replay call input program answer other steps same is is' = of_said Replay call (AnswersReplay call input program) answer other (one_replay call input program answer other steps (same refl)) input program is is'
-  of_program Profile call input program answer other steps same is is' = absurd is
+  of_program Replay call input program answer other steps same is is' = of_said Replay call (AnswersReplay call input program) answer other (one_replay call input program answer other steps same) input program is is'
+  of_program Profile call input program answer other steps same is is' = of_said Profile call (AnswersProfile call program) answer other (λ words first second. inl (same first.least second.least first.is second.is)) input program is is'
   of_program Run call input program answer other steps same is is' = of_data Run call (AnswersThreads call program) (one_threads due call program) input program answer other steps is is'
 
-  of_nest : (call : Call) (input : List ℕ) (said : Result Program Refusal) (answer other : Answer) → answer.history ≡ other.history → (call.action ≡ Replay → RefuseSameStep answer other) → AnswersNest call input said answer → AnswersNest call input said other → AreOne call.action call answer other
+  of_nest : (call : Call) (input : List ℕ) (said : Result Program Refusal) (answer other : Answer) → answer.history ≡ other.history → AgreeApart call.action answer other → AnswersNest call input said answer → AnswersNest call input said other → AreOne call.action call answer other
   of_nest call input (Ok program) answer other steps same is is' = of_program call.action call input program answer other steps same is is'
   of_nest call input (Err why) answer other steps same is is' = inl (is ∙ sym is')
 
-  of_input : (call : Call) (input : List ℕ) (answer other : Answer) → answer.history ≡ other.history → (call.action ≡ Replay → RefuseSameStep answer other) → AnswersInput call input answer → AnswersInput call input other → AreOne call.action call answer other
+  of_input : (call : Call) (input : List ℕ) (answer other : Answer) → answer.history ≡ other.history → AgreeApart call.action answer other → AnswersInput call input answer → AnswersInput call input other → AreOne call.action call answer other
   of_input call input answer other steps same (too_long long is) (too_long long' is') = inl (is ∙ sym is')
   of_input call input answer other steps same (too_long long is) (a_text few said says is') = absurd (omega (arith, long, few))
   of_input call input answer other steps same (a_text few said says is) (too_long long is') = absurd (omega (arith, long, few))
   of_input call input answer other steps same (a_text few said says is) (a_text few' said' says' is') =
       of_nest call input said' answer other steps same (subst (λ s. AnswersNest call input s answer) (one_nest input said said' says says') is) is'
 
-  of_call : (generates : Bool) (call : Call) (input : List ℕ) (answer other : Answer) → answer.history ≡ other.history → (call.action ≡ Replay → RefuseSameStep answer other) → AnswersCall generates call input answer → AnswersCall generates call input other → AreOne call.action call answer other
+  of_call : (generates : Bool) (call : Call) (input : List ℕ) (answer other : Answer) → answer.history ≡ other.history → AgreeApart call.action answer other → AnswersCall generates call input answer → AnswersCall generates call input other → AreOne call.action call answer other
   of_call true call input answer other steps same is is' = inl (is ∙ sym is')
   of_call false call input answer other steps same is is' = of_input call input answer other steps same is is'
 

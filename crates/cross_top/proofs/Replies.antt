@@ -17,7 +17,7 @@ use Rattle.cross_words.specs.declared.call.Call.{Call}
 use Rattle.nest_gen.specs.Generated.{generated}
 use Rattle.cross_top.specs.Words.{Ask, AskToRead, reads_input}
 use Rattle.cross_top.specs.Threads.{is_threaded, IsThreaded}
-use Rattle.cross_top.specs.Answers.{Answer, refusal, refused_answer, job_of, AnswersData, AnswersProgram, AnswersInput, too_long, a_text, Answers, AnswersCall, AnswersThreads, gen_answer, is_gen, word_refused, AnswersSteps, AnswersReplay}
+use Rattle.cross_top.specs.Answers.{Answer, refusal, refused_answer, job_of, AnswersData, AnswersProgram, AnswersInput, too_long, a_text, Answers, AnswersCall, AnswersThreads, TellsLeast, AnswersProfile, gen_answer, is_gen, word_refused, AnswersSteps, AnswersReplay}
 use Rattle.cross_top.specs.Ends.{SourceChange, IsDue, IsDueTo, TakesInput, TakesWhere, IsAnsweredFrom}
 
 -- the answer to a nest that is a program
@@ -39,6 +39,16 @@ words_answered Acts input program memory nest is says (Err e) h = tt
 pub fault_answered : (Acts : Program → List ℤ → Answer → Type 0) (input : List ℕ) (program : Program) (why : Refusal) → SaysWords input program (Err why) → (r : Result Answer NoMemory) → IfOk r (λ reply. reply ≡ refused_answer why) → IfOk r (λ reply. AnswersData (Acts program) input program reply)
 fault_answered Acts input program why says (Ok reply) h = record { said = Err why; says = says; answers = h }
 fault_answered Acts input program why says (Err e) h = tt
+
+-- the answer of `profile` to a job, from that to its program and words
+pub least_answered : (call : Call) (input : List ℕ) (program : Program) (memory : Memory) (nest : Nest) → nest ≡ record { program = program; opening = memory } → HasLayout memory program.decls → SaysWords input program (Ok memory)
+    → (r : Result Answer NoMemory) → IfOk r (λ reply. TellsLeast call nest reply) → IfOk r (λ reply. AnswersData (AnswersProfile call program) input program reply)
+least_answered call input program memory nest is sizes says (Ok reply) told = record {
+  said = Ok memory;
+  says = says;
+  answers = subst (λ (n : Nest). TellsLeast call n reply) (is ∙ λ i. record { program = program; opening = record { sizes = sizes i; words = memory.words } }) told;
+}
+least_answered call input program memory nest is sizes says (Err e) told = tt
 
 -- the answer of `replay`, to steps
 pub actors_answered : (r : Result Answer NoMemory) (call : Call) (input : List ℕ) (job : Nest) (steps : List ℕ) → SaysSteps input call.options.workers (Ok steps)

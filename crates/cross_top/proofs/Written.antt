@@ -16,7 +16,7 @@ use Rattle.progress_board.specs.declared.facts.Facts.{Facts}
 use Rattle.nest_mean.specs.declared.outcomes.Outcome.{Outcome}
 use Rattle.nest_mean.specs.declared.outcomes.Outcome.TheVariants as outcomes
 use Rattle.nest_mean.specs.Outcomes.{outcome}
-use Rattle.cross_top.specs.Answers.{Answer, refusal, refused_answer, printed, told, job_of, plain_answer, check_answer, deps_answer, gen_answer, is_gen, AnswersPlain, AnswersAlone, AnswersThreads, AnswersWords, AnswersProgram, AnswersNest, AnswersInput, too_long, a_text, AnswersCall, word_refused, step_refused, AnswersRun, AnswersSteps, ran, not_enabled, AnswersActors, AnswersReplay}
+use Rattle.cross_top.specs.Answers.{Answer, refusal, refused_answer, printed, told, job_of, plain_answer, check_answer, deps_answer, gen_answer, is_gen, AnswersPlain, AnswersAlone, AnswersThreads, AnswersWords, AnswersProgram, AnswersNest, AnswersInput, too_long, a_text, AnswersCall, word_refused, step_refused, AnswersRun, AnswersSteps, ran, not_enabled, AnswersActors, AnswersReplay, AnswersProfile, profile_answer}
 use Rattle.cross_top.specs.Words.{AskToRead}
 use Rattle.cross_top.specs.Ends.{SourceChange, IsDue, IsDueTo, IsAnsweredFrom, EndsWith, Ends}
 
@@ -67,6 +67,9 @@ replay_answers call input program words answer is = actors_answers call (job_of 
 threads_answers : (call : Call) (program : Program) (words : List ℤ) (answer : Answer) → AnswersThreads call program words answer → IsAnswering answer.status
 threads_answers call program words answer run = run_answers _ call (job_of program words) answer run
 
+profile_answers : (call : Call) (program : Program) (words : List ℤ) (answer : Answer) → AnswersProfile call program words answer → IsAnswering answer.status
+profile_answers call program words answer told = is_answering answer (profile_answer told.least) told.is tt
+
 words_answers : (Acts : List ℤ → Answer → Type 0) → ((words : List ℤ) (answer : Answer) → Acts words answer → IsAnswering answer.status) → (said : Result Memory Refusal) (answer : Answer) → AnswersWords Acts said answer → IsAnswering answer.status
 words_answers Acts acts (Ok memory) answer is = acts memory.words answer is
 words_answers Acts acts (Err why) answer is = is_answering answer (refused_answer why) is tt
@@ -79,7 +82,7 @@ program_answers Alone call input program answer is = words_answers (AnswersAlone
 program_answers Big call input program answer is = words_answers (AnswersAlone call program) (alone_answers call program) is.said answer is.answers
 program_answers Gen call input program answer is = absurd is
 program_answers Replay call input program answer is = words_answers (AnswersReplay call input program) (replay_answers call input program) is.said answer is.answers
-program_answers Profile call input program answer is = absurd is
+program_answers Profile call input program answer is = words_answers (AnswersProfile call program) (profile_answers call program) is.said answer is.answers
 program_answers Run call input program answer is = words_answers (AnswersThreads call program) (threads_answers call program) is.said answer is.answers
 
 nest_answers : (call : Call) (input : List ℕ) (said : Result Program Refusal) (answer : Answer) → AnswersNest call input said answer → IsAnswering answer.status

@@ -1,5 +1,5 @@
 -- What an action answers: the status that it ends with and the bytes that it prints.
-use Rattle.std.specs.Prelude.{◌≡◌, ◌↔◌, ◌⊎◌, ℕ, ◌≤◌, ◌<◌, ℤ, Bool, true, false, if◌then◌else◌, Result, Ok, Err, List, [], ◌∷◌, ◌++◌, codes, decimal, length}
+use Rattle.std.specs.Prelude.{◌≡◌, ◌↔◌, ◌⊎◌, ℕ, ◌≤◌, ◌<◌, ℤ, Bool, true, false, if◌then◌else◌, Option, Result, Ok, Err, List, [], ◌∷◌, ◌++◌, codes, decimal, length}
 use Rattle.nest_syntax.specs.declared.tree.Program.{Program}
 use Rattle.nest_syntax.specs.Arrays.{arrays_of, sizes_of}
 use Rattle.nest_syntax.specs.Outcome.{Ending, Done, TrappedAt, ending}
@@ -10,7 +10,7 @@ use Rattle.nest_input.specs.Input.{SaysNest, SaysWords, SaysSteps}
 use Rattle.nest_print.specs.Canonical.{canonical_text}
 use Rattle.nest_data.specs.Sum.{written_words, sum_of}
 use Rattle.nest_data.specs.Text.{array_lines}
-use Rattle.nest_report.specs.Text.{trap_line}
+use Rattle.nest_report.specs.Text.{trap_line, least_line}
 use Rattle.nest_report.specs.Deps.{deps_text}
 use Rattle.nest_report.specs.Steps.{steps_text}
 use Rattle.cross_top.specs.declared.status.Status.{Status}
@@ -22,6 +22,7 @@ use Rattle.nest_mean.specs.Nest.{Nest}
 use Rattle.nest_mean.specs.Outcomes.{outcome}
 use Rattle.nest_mean.specs.declared.outcomes.Outcome.{Outcome}
 use Rattle.nest_mean.specs.declared.outcomes.Outcome.TheVariants as outcomes
+use Rattle.nest_profile.specs.Least.{IsLeast}
 use Rattle.nest_runtime.specs.Opened.{IsSpeculative}
 use Rattle.nest_runtime.specs.Jobs.{RunsJob, RunsAlone, RunsStrict, RefusesStep}
 use Rattle.progress_board.specs.declared.facts.Facts.{Facts}
@@ -99,6 +100,10 @@ deps_answer program = record { status = status.Done; bytes = deps_text program; 
 abbrev pub gen_answer : List ℕ → Answer
 gen_answer text = record { status = status.Done; bytes = text; history = [] }
 
+-- what `profile` answers: the line of a least distance
+abbrev pub profile_answer : Option ℕ → Answer
+profile_answer least = record { status = status.Done; bytes = least_line least; history = [] }
+
 -- the answer to an input that is refused
 abbrev pub refused_answer : Refusal → Answer
 refused_answer why = refusal status.TextRefused (reason_text why)
@@ -139,6 +144,15 @@ pub record AnswersReplay (call : Call) (input : List ℕ) (program : Program) (w
   pub says : SaysSteps input call.options.workers said
   pub answers : AnswersActors call (job_of program words) said answer
 
+-- `profile` tells the least distance of a job
+pub record TellsLeast (call : Call) (job : Nest) (answer : Answer) : Type 0 where
+  pub least : Option ℕ
+  pub is_least : IsLeast job call.options least
+  pub is : answer ≡ profile_answer least
+
+abbrev pub AnswersProfile : Call → Program → List ℤ → Answer → Type 0
+AnswersProfile call program words answer = TellsLeast call (job_of program words) answer
+
 -- what is answered to what the data lines say, by an action that answers so to the words of a program
 abbrev pub AnswersWords : (List ℤ → Answer → Type 0) → Result Memory Refusal → Answer → Type 0
 AnswersWords Acts (Err why) answer = answer ≡ refused_answer why
@@ -150,8 +164,8 @@ pub record AnswersData (Acts : List ℤ → Answer → Type 0) (input : List ℕ
   pub says : SaysWords input program said
   pub answers : AnswersWords Acts said answer
 
--- What an action answers to an input with this program. `check` and `deps` don't look at the data lines. `gen` reads none,
--- and `profile` is never asked for.
+-- What an action answers to an input with this program. `check` and `deps` don't look at the data lines, and `gen` reads
+-- none.
 abbrev pub AnswersProgram : Action → Call → List ℕ → Program → Answer → Type 0
 AnswersProgram Plain call input program answer = AnswersData (AnswersPlain program) input program answer
 AnswersProgram Check call input program answer = answer ≡ check_answer program
@@ -160,7 +174,7 @@ AnswersProgram Alone call input program answer = AnswersData (AnswersAlone call 
 AnswersProgram Big call input program answer = AnswersData (AnswersAlone call program) input program answer
 AnswersProgram Gen call input program answer = ⊥
 AnswersProgram Replay call input program answer = AnswersData (AnswersReplay call input program) input program answer
-AnswersProgram Profile call input program answer = ⊥
+AnswersProgram Profile call input program answer = AnswersData (AnswersProfile call program) input program answer
 AnswersProgram Run call input program answer = AnswersData (AnswersThreads call program) input program answer
 
 -- what a call answers to what the nest of an input says
@@ -200,6 +214,16 @@ pub record DifferInFacts (call : Call) (answer other : Answer) : Type 0 where
   pub is : answer ≡ told call program facts history (outcomes.Done memory)
   pub other_is : other ≡ told call program others history (outcomes.Done memory)
 
+-- two answers of `profile` tell the same distance
+abbrev pub TellSameDistance : Answer → Answer → Type 0
+TellSameDistance answer other = (least others : Option ℕ) → answer ≡ profile_answer least → other ≡ profile_answer others → answer ≡ other
+
+-- what the input and the steps don't settle of two answers
+abbrev pub AgreeApart : Action → Answer → Answer → Type 0
+AgreeApart Replay answer other = RefuseSameStep answer other
+AgreeApart Profile answer other = TellSameDistance answer other
+AgreeApart _ answer other = Unit {0}
+
 -- the actions that run an engine
 abbrev pub runs_engine : Action → Bool
 runs_engine Alone = true
@@ -212,7 +236,7 @@ runs_engine _ = false
 abbrev pub AreOne : Action → Call → Answer → Answer → Type 0
 AreOne action call answer other = (answer ≡ other) ⊎ ((runs_engine action ≡ true) × IsSpeculative call.options.engine × DifferInFacts call answer other)
 
--- With the same steps, an input has one answer. Which step `replay` refuses isn't settled by this: its two answers have to
--- refuse the same, or none. Nor is what a speculative engine counts.
+-- With the same steps, an input has one answer. Which step `replay` refuses isn't settled by this, nor which distance
+-- `profile` tells: two answers have to agree about these. Nor is what a speculative engine counts.
 abbrev pub OneAnswer : Type 0
-OneAnswer = (call : Call) (input : List ℕ) (answer other : Answer) → answer.history ≡ other.history → (call.action ≡ Replay → RefuseSameStep answer other) → Answers call input answer → Answers call input other → AreOne call.action call answer other
+OneAnswer = (call : Call) (input : List ℕ) (answer other : Answer) → answer.history ≡ other.history → AgreeApart call.action answer other → Answers call input answer → Answers call input other → AreOne call.action call answer other

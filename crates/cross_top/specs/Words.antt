@@ -1,7 +1,7 @@
 -- What the command words ask the program for.
 use Rattle.std.specs.Prelude.{◌≡◌, ℕ, Bool, true, false, Option, Some, None, List}
 use Rattle.cross_words.specs.declared.call.Action.{Action}
-use Rattle.cross_words.specs.declared.call.Action.TheVariants.{Profile, Gen, Big, Run}
+use Rattle.cross_words.specs.declared.call.Action.TheVariants.{Gen, Big, Run}
 use Rattle.cross_words.specs.declared.call.Call.{Call}
 use Rattle.cross_words.specs.Table.{Say}
 use Rattle.cross_words.specs.Ranges.{IsInRange}
@@ -12,10 +12,8 @@ reads_input Gen = false
 reads_input Big = false
 reads_input _ = true
 
--- Whether an action is answered. The words for any other are refused: what `profile` needs doesn't stand, and `run` has
--- threads, while this call waits for nobody.
+-- Whether an action is answered. The words for `run` are refused: it has threads, while this call waits for nobody.
 abbrev pub is_answered : Action → Bool
-is_answered Profile = false
 is_answered Run = false
 is_answered _ = true
 

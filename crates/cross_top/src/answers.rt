@@ -2,11 +2,12 @@ ghost use Rattle.std.specs.Prelude.{◌≡◌, ◌≤◌, true, false, IfOk, len
 ghost use Rattle.nest_io.specs.declared.transfer.TheConstants.{MOST_BYTES};
 ghost use Rattle.nest_gen.specs.Generated.{generated};
 ghost use Rattle.cross_top.specs.Answers.{refusal, refused_answer, plain_answer, check_answer, deps_answer, gen_answer};
-ghost use Rattle.cross_top.specs.Answers.{Answers, AnswersInput, AnswersProgram, AnswersData, AnswersPlain, AnswersAlone, AnswersReplay, is_gen};
+ghost use Rattle.cross_top.specs.Answers.{Answers, AnswersInput, AnswersProgram, AnswersData, AnswersPlain, AnswersAlone, AnswersReplay, AnswersProfile, is_gen};
 ghost use Rattle.progress_board.specs.Options.{IsInRange};
 ghost use Rattle.cross_top.specs.Words.{IsAnswerable, is_answered};
 
 use crate::alone::alone;
+use crate::profile::profile;
 use crate::refusals::reason_text;
 use crate::replay::replay;
 use crate::status::Status;
@@ -126,8 +127,8 @@ fn answer_program(
         Action::Alone => alone_of(alloc, call, input, checked),
         Action::Big => alone_of(alloc, call, input, checked),
         Action::Replay => replay_of(alloc, call, input, checked),
+        Action::Profile => profile_of(alloc, call, input, checked),
         Action::Gen => unreachable!(),
-        Action::Profile => unreachable!(),
         Action::Run => unreachable!(),
     }
 }
@@ -189,6 +190,19 @@ fn replay_of(alloc: Global, call: &Call, input: &[u8], checked: Checked) -> Resu
 {
     match read_words(alloc, input, &checked) {
         Ok(words) => replay(alloc, call, input, Job::new(checked, words)),
+        Err(InputRefused::Refused(why)) => refused(alloc, why),
+        Err(InputRefused::NoMemory) => Err(NoMemory),
+    }
+}
+
+/// What `profile` answers to an input with this program.
+fn profile_of(alloc: Global, call: &Call, input: &[u8], checked: Checked) -> Result<Reply, NoMemory>
+    requires few { length input.now ≤ MOST_BYTES }
+    requires in_range { IsInRange call.now.options }
+    ensures { IfOk result (λ reply. AnswersData (AnswersProfile call.now checked) input.now checked reply) }
+{
+    match read_words(alloc, input, &checked) {
+        Ok(words) => profile(alloc, call, &Job::new(checked, words)),
         Err(InputRefused::Refused(why)) => refused(alloc, why),
         Err(InputRefused::NoMemory) => Err(NoMemory),
     }

@@ -8,6 +8,7 @@
 mod alone;
 mod answers;
 mod laws;
+mod profile;
 mod refusals;
 mod replay;
 mod status;

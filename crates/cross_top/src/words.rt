@@ -24,8 +24,8 @@ fn is_answered(action: Action) -> bool
 {
     match action {
         Action::Plain | Action::Check | Action::Deps | Action::Gen => true,
-        Action::Alone | Action::Replay | Action::Big => true,
-        Action::Profile | Action::Run => false,
+        Action::Alone | Action::Replay | Action::Profile | Action::Big => true,
+        Action::Run => false,
     }
 }
 

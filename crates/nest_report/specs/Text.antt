@@ -1,5 +1,5 @@
 -- The texts that are printed. Each line ends with a line feed, and numbers are decimal.
-use Rattle.std.specs.Prelude.{ℕ, Bool, true, false, List, [], ◌∷◌, ◌++◌, codes, decimal}
+use Rattle.std.specs.Prelude.{ℕ, Bool, true, false, Option, Some, None, List, [], ◌∷◌, ◌++◌, codes, decimal}
 use Rattle.nest_syntax.specs.declared.operators.Cause.{Cause}
 use Rattle.nest_syntax.specs.declared.operators.Cause.TheVariants as cause
 use Rattle.nest_syntax.specs.declared.place.Place.{Place}
@@ -17,3 +17,11 @@ moment_text false = codes " iteration "
 -- `trap CAUSE line L iteration N`
 abbrev pub trap_line : Place → List ℕ
 trap_line place = codes "trap " ++ cause_text place.cause ++ codes " line " ++ decimal place.line.0 ++ moment_text place.by_scheduler ++ decimal place.number ++ 10 ∷ []
+
+-- `least distance N` or, where there is none, `least distance none`
+abbrev pub distance_text : Option ℕ → List ℕ
+distance_text (Some distance) = decimal distance
+distance_text None = codes "none"
+
+abbrev pub least_line : Option ℕ → List ℕ
+least_line least = codes "least distance " ++ distance_text least ++ 10 ∷ []
