@@ -7,7 +7,7 @@ use Rattle.cross_top.proofs.Replies.{least_answered, fault_answered}
 use Rattle.cross_top.proofs.answers.profile_of.Goals as goal
 
 pub returns-in-Ok : goal.returns-in-Ok
-returns-in-Ok c = least_answered c.args.call.now c.args.input.now c.args.checked c.in-Ok.words _ c.new.ensures c.in-Ok.ensures.sizes c.in-Ok.ensures.said c.profile.result c.profile.ensures
+returns-in-Ok c = least_answered c.args.call.now c.args.input.now c.args.checked c.in-Ok.words _ c.new.ensures c.in-Ok.ensures.sizes c.in-Ok.ensures.said c.profile-in-Ok.result c.profile-in-Ok.ensures
 
 pub returns-in-Err-Refused : goal.returns-in-Err-Refused
 returns-in-Err-Refused c =
