@@ -1,4 +1,4 @@
--- The test whether two sets of claims conflict.
+-- The test whether two sets of claims clash.
 use Rattle.std.proofs.Common.{◌≡◌, ℕ, zero, suc, ◌<◌, true, ◌&&◌, ⊎_elim, inl, inr, IsTrue, sym, subst, arith}
 use Rattle.std.proofs.lemmas.Bool.{and_parts, and_from, or_cases, or_left, or_right, cases_lt, true≢false}
 use Rattle.addr_slice.specs.Claims.{Claimed, has, is_claimed, words_of, clash_at, clash_below, Clash, IsEven, TestTellsClash}

@@ -62,7 +62,7 @@ IsNext passes from (Some n) = (from ≤ n) × IsTrue (passes n) × ((k : ℕ) �
 abbrev pub by_word : Claimed → law.Claims
 by_word claims = record { read = is_set claims.reads; written = is_set claims.writes }
 
--- two sets of claims conflict
+-- two sets of claims clash
 abbrev pub Clash : Claimed → Claimed → Type 0
 Clash first second = law.Clash (by_word first) (by_word second)
 
@@ -77,7 +77,7 @@ clash_below first second (suc n) = clash_below first second n || clash_at first 
 abbrev pub clash : Claimed → Claimed → Bool
 clash first second = clash_below first second (words_of first)
 
--- Whether the claims of iterations j and k conflict, where each iteration has a set of claims.
+-- Whether the claims of iterations j and k clash, where each iteration has a set of claims.
 unfoldable pub clashes : (ℕ → Claimed) → ℕ → ℕ → Bool
 clashes claims j k = clash (claims k) (claims j)
 
@@ -85,7 +85,7 @@ clashes claims j k = clash (claims k) (claims j)
 abbrev pub IsEven : Claimed → Type 0
 IsEven claims = length claims.writes ≡ length claims.reads
 
--- The test tells conflicts.
+-- The test tells whether two sets clash.
 abbrev pub TestTellsClash : Type 0
 TestTellsClash = (first second : Claimed) → IsEven first → IsTrue (clash first second) ↔ Clash first second
 

@@ -38,8 +38,7 @@ abbrev pub ClaimsHold : Type 0
 ClaimsHold = (program : Program) → IsWellNamed program → KeepsRules program → (opening : List ℤ) (body : ℕ) (scalars : List ℤ)
     → WithinTurn (sizes_of (arrays_of program.decls)) (fixed_in (arrays_of program.decls) opening) (by_word (claims_of program opening (body, scalars))) (turn_in (arrays_of program.decls) (bodies_of program) body scalars)
 
--- Nothing but what is in scope at its body counts of the scalars for what an iteration claims and costs, and of the words the
--- `const` ones alone.
+-- What an iteration claims and costs depends only on the scalars in scope at its body and on the `const` words.
 abbrev pub ClaimsAreOfScope : Type 0
 ClaimsAreOfScope = (program : Program) → IsWellNamed program → KeepsRules program → (opening words : List ℤ) → HoldsFixed (fixed_in (arrays_of program.decls) opening) words → (body : ℕ) (some others : List ℤ) → AgreeAt program body some others
     → (claims_of program words (body, some) ≡ claims_of program opening (body, others)) × (cost_of program words (body, some) ≡ cost_of program opening (body, others))

@@ -30,8 +30,8 @@ impl Model for Claims {
 }
 
 impl Claims {
-    /// No claim, with room for the words of arrays of these lengths, at most 1,048,576 together. Takes seven bits for
-    /// each.
+    /// No claim, with room for the words of arrays of these lengths, at most 1,048,576 together. Takes a little over
+    /// seven bits for each word.
     pub fn with_room(alloc: Global, lengths: &[u64]) -> Result<Claims, NoMemory>
         requires { sum lengths.now ≤ most_words }
         ensures { IfOk result (λ made. made ≡ no_claims (sum lengths.now)) }
@@ -52,8 +52,8 @@ impl Claims {
         self.reads.len()
     }
 
-    /// Whether a word is claimed for writing, or else for reading. A word that there is no room for isn't. A constant
-    /// cost.
+    /// Whether a word is claimed for writing, or for reading where `write` is false. A word that there is no room for
+    /// is claimed for neither. A constant cost.
     pub fn has(&self, word: u32, write: bool) -> bool
         ensures { result ≡ has self.now word write }
     {
@@ -88,8 +88,8 @@ impl Claims {
         self.either.insert(word as usize);
     }
 
-    /// Claims so many words that there is room for, from the first on, for writing or for reading. Costs as much as there
-    /// are, but a constant where they were claimed so since all was forgotten.
+    /// Claims `count` words that there is room for, from `first` on, for writing or for reading. The cost grows with
+    /// `count`, but is a constant where it is known that all of them are claimed so.
     pub(crate) fn add_all(&mut self, first: u32, count: u32, write: bool)
         requires inside { first + count ≤ words_of self.old }
         requires few { words_of self.old ≤ most_words }
@@ -144,8 +144,8 @@ impl Claims {
         self.either.clear();
     }
 
-    /// Whether two sets of claims conflict: some word is in both, and for writing in one. Costs a walk over the claims
-    /// of `self`.
+    /// Whether two sets of claims clash: both claim some word, and one of them claims it for writing. Costs a walk over
+    /// the claims of `self`.
     pub fn clashes(&self, other: &Claims) -> bool
         ensures { IsTrue result ↔ Clash self.now other.now }
     {

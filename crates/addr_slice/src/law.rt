@@ -1,8 +1,8 @@
 ghost use Rattle.addr_slice.specs.Claims.{TestTellsClash};
 ghost use Rattle.addr_slice.specs.Slice.{ClaimsHold, ClaimsAreOfScope};
 
-/// A law: the test whether two sets of claims conflict tells whether there is a word that both claim, and one of them for
-/// writing.
+/// A law: the test whether two sets of claims clash is right. They clash where both claim some word, and one of them
+/// claims it for writing.
 pub fn test_tells_clash()
     ensures { TestTellsClash }
 {}
@@ -13,8 +13,7 @@ pub fn claims_hold()
     ensures { ClaimsHold }
 {}
 
-/// A law: of the scalars those in scope at the body settle what an iteration claims and costs, and of the words the `const`
-/// ones.
+/// A law: what an iteration claims and costs depends only on the scalars in scope at its body and on the `const` words.
 pub fn claims_are_of_scope()
     ensures { ClaimsAreOfScope }
 {}

@@ -23,9 +23,9 @@ use nest_syntax::{Cause, Expr};
 use word_store::Words;
 
 /// Puts the claims of an iteration into `into` and nothing else: whatever was claimed there before is forgotten. The
-/// scalars have the values of the scheduler's scalars and of the invocation's variable; those of the body's locals stand
-/// changed afterwards, all others are kept. Only `const` words are read. Takes no memory. The result is the cost of the
-/// iteration: no turn of it has more operations and stops, with its end and one more on top. At 2^64 - 1 it stays there.
+/// scalars have the values of the scheduler's scalars and of the invocation's variable; those of the body's locals are
+/// changed, all others are kept. Only `const` words are read. Takes no memory. The result is the cost of the iteration:
+/// the operations and stops that its walk meets, its end, and one more. It is at most 2^64 - 1.
 pub fn claims_and_cost(
     split: &Split,
     checked: &Checked,

@@ -1,4 +1,4 @@
--- Of the scalars, those in scope where a body begins settle what its walk meets, and of the words the `const` ones.
+-- What the walk of a body meets depends only on the scalars in scope where the body begins, and on the `const` words.
 use Rattle.std.proofs.Common.{◌≡◌, ℕ, ◌<◌, ◌==◌, ℤ, pos, Bool, true, false, not, ◌||◌, if◌then◌else◌, Option, Some, None, is_none, Ok, Err, List, [], ◌∷◌, length, slice_get, slice_index_or, refl, sym, ap, ◌∙◌, subst, inl, inr}
 use Rattle.std.specs.Option.{option_map, option_and_then, option_map_or}
 use Rattle.std.proofs.lemmas.List.{length-set}

@@ -69,8 +69,8 @@ pub record AgreeAt (program : Program) (body : ℕ) (some others : List ℤ) : T
   pub scheduled : (name number : ℕ) → scalar_of program name ≡ Some number → scalar_at some name ≡ scalar_at others name
   pub variable : (l : Loop) → option_and_then (λ (b : Body). b.header) (slice_get (invoked_by program) body) ≡ Some l → scalar_at some l.name ≡ scalar_at others l.name
 
--- Of an iteration of a program that keeps the rules: nothing else of the scalars counts for what its walk meets, and of the
--- words the `const` ones alone.
+-- Of an iteration of a program that keeps the rules: what its walk meets depends only on those scalars and on the
+-- `const` words.
 abbrev pub StepsAreOfScope : Type 0
 StepsAreOfScope = (program : Program) → IsWellNamed program → KeepsRules program → (body : ℕ) (data_locals : List ℕ) → AreDataLocals (arrays_of program.decls) (body_at (bodies_of program) body) data_locals
     → (opening words : List ℤ) → HoldsFixed (fixed_in (arrays_of program.decls) opening) words → (some others : List ℤ) → AgreeAt program body some others

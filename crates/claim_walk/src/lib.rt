@@ -12,7 +12,7 @@ pub fn claims_hold_turns()
     ensures { ClaimsHoldTurns }
 {}
 
-/// In such a program no turn of an iteration has more operations and stops before its end than its walk meets.
+/// In such a program the operations and stops of an iteration's turn, without its end, are no more than its walk meets.
 pub fn steps_bound_turns()
     ensures { StepsBoundTurns }
 {}
@@ -27,13 +27,13 @@ pub fn walks_keep_number()
     ensures { WalksKeepNumber }
 {}
 
-/// The walk of an iteration is told by which names are data locals, whatever list has them.
+/// The walk of an iteration depends on which names are data locals, but not on the list that has them.
 pub fn steps_are_of_locals()
     ensures { StepsAreOfLocals }
 {}
 
-/// In such a program the walk of an iteration is told by the scalars in scope at its body, the variable of its invocation and
-/// the `const` words.
+/// In a program that keeps the rules the walk of an iteration depends only on the scalars in scope at its body, the
+/// variable of its invocation and the `const` words.
 pub fn steps_are_of_scope()
     ensures { StepsAreOfScope }
 {}

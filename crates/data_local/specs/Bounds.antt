@@ -10,7 +10,7 @@ use Rattle.nest_syntax.specs.Among.{IsOne}
 use Rattle.data_local.specs.DataLocals.{IsData}
 use Rattle.data_local.specs.Loops.{line_of, loops_in}
 
--- Whether a line is that of a loop inside a body of which a bound is a data expression.
+-- Whether a line is that of a loop that stands inside a body and has a data expression as a bound.
 abbrev pub HasDataBoundIn : List Array → List Stmt → Line → Type 0
 HasDataBoundIn arrays body line = (inner : Loop) × IsOne (loops_in body) inner × (inner.line ≡ line) × (IsData arrays body inner.low ⊎ IsData arrays body inner.high)
 

@@ -13,8 +13,8 @@ use crate::written::WrittenArrays;
 use nest_syntax::{Expr, Line, Loop, Lowest, NoMemory, Program, Stmt};
 use std::alloc::Global;
 
-/// The lowest line of a loop inside a body of which a bound is a data expression. None comes exactly where no line breaks
-/// this rule.
+/// The lowest line of a loop that stands inside a body and has a data expression as a bound. None comes exactly where
+/// there is no such loop.
 pub fn lowest_data_bound(alloc: Global, program: &Program) -> Result<Option<Line>, NoMemory>
     ensures { IfOk result (λ found. IsLowest (HasDataBound program.now) found) }
 {

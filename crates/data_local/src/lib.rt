@@ -1,7 +1,7 @@
 //! The data locals of a body, and the rule on the bounds of the loops inside it.
 //!
-//! In comes a program, out go the data locals of each body: the names whose values may depend on written arrays; and the
-//! lowest line that breaks the rule that the bounds of the loops inside a body depend on no written array.
+//! In comes a program, out go the data locals of each body, which are the names whose values may depend on written
+//! arrays, and the lowest line that breaks the rule on bounds: no loop inside a body has a data expression as a bound.
 #![tactic(auto)]
 
 mod bodies;

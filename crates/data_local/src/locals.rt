@@ -16,7 +16,7 @@ use nest_syntax::{Expr, NoMemory, Stmt};
 use std::alloc::Global;
 use std::marker::Model;
 
-/// The data locals of a body, as a list of names that rise.
+/// The data locals of a body, as a list of names in rising order.
 #[derive(Debug, Drop)]
 pub struct DataLocals {
     names: Vec<u32>,

@@ -86,7 +86,7 @@ fn keep_giving<'a>(
     Ok(())
 }
 
-// Of 2^32 rows memory is said to be out.
+// Where a number would pass 32 bits, it answers `NoMemory`.
 fn keep_test<'a>(test: &'a Expr, under: u32, rows: &mut Vec<Row<'a>>) -> Result<u32, NoMemory>
     ensures number { IfOk result (λ number. number ≡ length rows.old.items + 1) }
     ensures rows { IfOk result (λ number. rows.new.items ≡ rows.old.items ++ Row.Test number test.entry under ∷ []) }

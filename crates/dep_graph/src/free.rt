@@ -30,7 +30,7 @@ fn none_free(alloc: Global, step: u64, accesses: &[Access]) -> Result<Vec<bool>,
     Ok(vec![in alloc; false; accesses.len()]?)
 }
 
-// The arrays that are written, each once. There are no more than statements.
+// The arrays that are written, each once.
 fn arrays_written(alloc: Global, accesses: &[Access]) -> Result<Vec<u32>, NoMemory> {
     let mut found = IndexSet::new(alloc);
     let mut arrays = Vec::new(alloc);

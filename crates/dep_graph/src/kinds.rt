@@ -14,16 +14,16 @@ use nest_check::Checked;
 use nest_syntax::{Loop, NoMemory};
 use std::alloc::Global;
 
-/// Whether any two iterations of an invocation are known to be apart: all of them, or not, with the first pair of
-/// accesses by which they may depend on each other.
+/// `DoAll` where any two iterations of an invocation are known to be apart; else `Plain`, with the first pair of
+/// accesses by which iterations may depend on each other.
 #[derive(Clone, Copy, Debug, PartialEq, Eq)]
 pub enum LoopKind {
     DoAll,
     Plain { first: AccessAt, second: AccessAt },
 }
 
-/// The kind of a loop that invokes a body of the program. `Plain` carries the first pair of accesses that no test parts,
-/// in the order of the second one, then of the first.
+/// The kind of a loop that invokes a body of the program. `Plain` carries the first pair of accesses that no test
+/// parts: pairs are in the order of the later access, then of the earlier one, and an access is paired with itself too.
 pub fn classify(alloc: Global, nest: &Loop, checked: &Checked) -> Result<LoopKind, NoMemory>
     ensures { IfOk result (λ kind. kind ≡ kind_of checked.now nest.now) }
 {
@@ -89,8 +89,8 @@ fn is_free(free: &[bool], k: usize) -> bool
     }
 }
 
-// The first of the accesses up to this one that may depend on it. Where none is known to, none is looked at, and for a
-// read only the writes among them.
+// The first of the accesses up to this one that may depend on it. No access is looked at where this one is known to be
+// free; for a read only the writes are.
 fn first_up_to(
     accesses: &[Access],
     writes: &[&Access],

@@ -163,7 +163,7 @@ pub(crate) struct Known<'a> {
 }
 
 impl<'a> Known<'a> {
-    /// Nothing is known, as no access came.
+    /// Before the first access.
     pub(crate) fn nothing() -> Known<'a> {
         Known {
             all: Seen::Nothing,

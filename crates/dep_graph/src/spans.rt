@@ -11,7 +11,7 @@ pub(crate) struct Span {
     pub greatest: i64,
 }
 
-/// The same before that is known.
+/// The least and the greatest value, before it is known whether they pass 2^62.
 #[derive(Clone, Copy)]
 pub(crate) struct WideSpan {
     pub least: i128,

@@ -63,6 +63,6 @@ changes_one scalars arrays stmts = list_any (λ s. s) (map (changes scalars arra
 abbrev pub changes_its_bound : Loop → Bool
 changes_its_bound l = is_among (scalars_in l.high) l.name || changes_one (scalars_in l.high) (arrays_in l.high) l.body
 
--- the lines of the loops of which that is so: no high bound may change while its loop runs
+-- the lines of the loops that change their high bound, which breaks the rule
 abbrev pub lines_of_changed_bounds : Program → List Line
 lines_of_changed_bounds program = lines_where line_of changes_its_bound (loops_of program)

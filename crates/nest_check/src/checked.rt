@@ -73,7 +73,7 @@ impl Checked {
         })
     }
 
-    /// An equal value. Its data locals are found anew.
+    /// An equal value. Its data locals are computed again.
     pub fn copy(&self, alloc: Global) -> Result<Checked, NoMemory>
         ensures { IfOk result (λ copied. copied ≡ self.now) }
     {
@@ -135,8 +135,8 @@ impl Checked {
         self.locals.as_slice()
     }
 
-    /// Whether a name is a data local of the body with this number. An array statement has none, and neither has a
-    /// number from that of the bodies on.
+    /// Whether a name is a data local of the body with this number. It is false for an array statement, and for a
+    /// number that no body has.
     pub fn is_data(&self, body: u32, name: u32) -> bool
         ensures { IsTrue result ↔ IsDataLocal (arrays_of self.now.decls) (body_numbered (bodies_of self.now) body) name }
     {

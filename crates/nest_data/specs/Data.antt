@@ -69,7 +69,7 @@ outcome names arrays read line (text ∷ texts) = and_then (λ behind. outcome n
 abbrev pub data_of : List (List ℕ) → List Array → ℕ → List ℕ → Result Memory (DataKind × ℕ)
 data_of names arrays line bytes = outcome names (array_names arrays) (opening (sizes_of arrays)) line (lines_of bytes)
 
--- an answer tells the outcome, or that memory was out
+-- an answer tells the outcome, or that memory ran out
 abbrev pub Tells : Result Memory (DataKind × ℕ) → Result Memory DataRefused → Type 0
 Tells result (Ok memory) = result ≡ Ok memory
 Tells result (Err (refused.Line kind line)) = result ≡ Err (kind, line)

@@ -15,8 +15,8 @@ use word_store::Words;
 /// The opening words of a program's arrays, as data lines give them; the first line has the number `first_line`. An
 /// array without a line is all zeros.
 ///
-/// `Line` comes exactly where a line is faulty, with the first such line and the first of its faults. All memory is
-/// taken before the first line is read.
+/// `Line` comes only where a line is faulty, with the first such line and the first of its faults. All memory is taken
+/// before the first line is read.
 pub fn read_data(
     alloc: Global,
     bytes: &[u8],
@@ -45,8 +45,8 @@ pub fn words_are_of_lines()
         → data_of names arrays line bytes ≡ Ok memory → AreOfLines names arrays (lines_of bytes) memory }
 {}
 
-/// Where words are given no line is faulty. Else the line that is told is faulty, its fault is the first one that it
-/// has, and no earlier line is faulty.
+/// Where `data_of` gives words, no line is faulty. Otherwise it tells a faulty line and the first fault of that line,
+/// and no earlier line is faulty.
 pub fn faults_are_of_lines()
     ensures { (names : List (List ℕ)) (arrays : List Array) (line : ℕ) (bytes : List ℕ) → Judges names arrays line (lines_of bytes) (data_of names arrays line bytes) }
 {}

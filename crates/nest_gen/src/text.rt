@@ -7,8 +7,8 @@ use nest_data::add_line;
 use nest_syntax::NoMemory;
 use std::alloc::Global;
 
-/// The input that a seed and a size generate: four turns that add along an index array of that size and mix two arrays,
-/// with the drawn words of all three.
+/// The input that a seed and a size generate: four turns that add along an index array of that size and mix two arrays.
+/// The words of all three arrays are drawn.
 pub fn generate(alloc: Global, seed: u32, size: u32) -> Result<Vec<u8>, NoMemory>
     requires seed { seed ≤ 2147483647 }
     requires some { 1 ≤ size }

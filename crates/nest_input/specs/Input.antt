@@ -70,7 +70,7 @@ pub record SaysWords (input : List ℕ) (program : Program) (said : Result Memor
   pub divided : IsParts input parts
   pub words : said ≡ words_said (data_of program.names (arrays_of program.decls) parts.data_line (data_in input parts))
 
--- an answer tells what is said, or that memory was out
+-- an answer tells what is said, or that memory ran out
 abbrev pub Tells : {A : Type 0} → (Result A Refusal → Type 0) → Result A InputRefused → Type 0
 Tells Says (Ok value) = Says (Ok value)
 Tells Says (Err (refused.Refused why)) = Says (Err why)
@@ -87,7 +87,7 @@ pub record SaysSteps (input : List ℕ) (workers : ℕ) (said : Result (List ℕ
   pub divided : IsParts input parts
   pub actors : said ≡ actors_said workers (steps_in input parts) (first_stranger workers (steps_in input parts))
 
--- what a refusal says of them; want of memory says nothing
+-- what a refusal says of them; `NoMemory` says nothing
 abbrev pub RefusesSteps : List ℕ → ℕ → StepsRefused → Type 0
 RefusesSteps input workers (stepping.Word n) = SaysSteps input workers (Err n)
 RefusesSteps input workers stepping.NoMemory = Unit {0}

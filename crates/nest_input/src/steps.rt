@@ -6,8 +6,8 @@ use nest_lex::parts;
 use std::alloc::Global;
 use step_words::StepsRefused;
 
-/// The actors that the step words of an input name, of a machine with so many workers, or the first word that names none.
-/// An input without the line `steps` has none.
+/// The actors that the step words of an input name, of a machine with so many workers, or the number, from 0, of the
+/// first word that names none. An input without the line `steps` has no step words.
 pub fn read_steps(alloc: Global, input: &[u8], workers: u8) -> Result<Vec<u8>, StepsRefused>
     requires few { workers ≤ 8 }
     requires small { length input.now ≤ 33554432 }

@@ -1,5 +1,5 @@
--- What moves through a source and a sink, and when a source has answered its end. `Consumes`, `Keeps`, `IsAtEnd` and `Appends` are std's words on
--- bytes that are told or not.
+-- What moves through a source and a sink, and when a source has answered its end. `Consumes`, `IsAtEnd` and `Appends`
+-- are std's words on bytes that are told or not.
 use Rattle.std.specs.Prelude.{◌≡◌, ◌==◌, ℕ, ◌<◌, Bool, false, List, ◌++◌, length, Option, Result, Ok, Err}
 use Rattle.std.specs.Io.KnownBytes.{Consumes, Appends}
 

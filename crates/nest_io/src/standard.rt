@@ -8,8 +8,8 @@ use crate::stream::{Sink, Source};
 use std::io::{Input, Print, Read};
 use std::marker::Model;
 
-/// Standard input. Contracts see it as an `InputState`: it tells of the bytes to come what the runtime's reader does. Its
-/// count of faults goes one up at each error and stays at 2^64 - 1 once it is there.
+/// Standard input. Contracts see it as an `InputState`, whose `left` is what the runtime's reader says of the bytes to
+/// come. Its count of faults goes up by one at each error, and stays at 2^64 - 1 once it is there.
 #[derive(Drop)]
 pub struct StdSource<R: Input> {
     reader: R::Reader,
@@ -73,9 +73,9 @@ impl<R: Input> Source for StdSource<R> {
     }
 }
 
-/// Standard output. It doesn't tell what it took, and contracts see it as its count of faults,
-/// which goes one up at each error and at each write that takes nothing, and stays at 2^64 - 1
-/// once it is there. Nothing is kept back in a buffer.
+/// Standard output. It doesn't tell what it took, so contracts see it as its count of faults alone.
+/// The count goes up by one at each error and at each write that takes nothing, and stays at
+/// 2^64 - 1 once it is there. Nothing is kept back in a buffer.
 #[derive(Drop)]
 pub struct StdSink<'a, R: Print> {
     rt: &'a R,

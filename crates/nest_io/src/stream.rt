@@ -17,11 +17,11 @@ pub trait Source {
     /// Whether the end was answered. Behind it nothing is read.
     ghost is_ended: { Self → Bool };
 
-    /// No coming call fails. A source that can't know never says so.
+    /// No later call fails. A source that can't know this never says so.
     ghost never_fails: { Self → Type 0 } = { λ _. ⊥ };
 
     /// Puts the next bytes at the front of `buf` and answers how many: at least one before the end,
-    /// and 0 at the end. On `ReadFailed` nothing was given, and what `buf` holds is open.
+    /// and 0 at the end. On `ReadFailed` nothing was given, and what `buf` holds isn't specified.
     fn read(&mut self, buf: &mut [u8]) -> Result<usize, ReadFailed>
         requires room { 0 < length buf.old }
         requires going { is_ended self.old ≡ false }
@@ -47,7 +47,7 @@ pub trait Sink {
     /// How many calls have failed. The count stays at 2^64 - 1 once it is there.
     ghost faults: { Self → ℕ };
 
-    /// No coming call fails while that many bytes more are written. A sink that can't know never says so.
+    /// No call fails until that many more bytes are written. A sink that can't know this never says so.
     ghost has_room: { Self → ℕ → Type 0 } = { λ _ _. ⊥ };
 
     /// Takes bytes from the front of `bytes` and answers how many, at least one.

@@ -15,9 +15,9 @@ const PIECE_BYTES: usize = 16_384;
 
 /// Takes all bytes of a source, to its end.
 ///
-/// `Read` comes only where the source's count of faults rose. `TooLong` comes exactly where the
-/// source has more than `MOST_BYTES` bytes, at the next one, which is taken too. On a refusal the
-/// bytes that were read are gone from the source. Memory is taken as bytes come.
+/// `Read` comes only where the source's count of faults rose. `TooLong` comes only where the source
+/// has more than `MOST_BYTES` bytes; `MOST_BYTES` and one more are gone from it then. On the other
+/// refusals the bytes that were read are gone from the source. Memory is taken as bytes come.
 pub fn take_all<S: Source>(alloc: Global, source: &mut S) -> Result<Vec<u8>, TakeFault>
     requires { S.is_ended source.old ≡ false }
 
@@ -31,7 +31,7 @@ pub fn take_all<S: Source>(alloc: Global, source: &mut S) -> Result<Vec<u8>, Tak
     ensures all { IfOk result (λ bytes. Consumes (S.left source.old) (S.left source.new) bytes.items) }
     ensures end { OnOk result (IsAtEnd (S.left source.new)) }
 
-    // The source answered its end exactly where its bytes are handed out.
+    // The source answered its end exactly where the result is `Ok`.
     ensures ended { S.is_ended source.new ≡ is_ok result }
 
     ensures part { OnErr result (LosesPrefix (S.left source.old) (S.left source.new)) }
@@ -43,7 +43,7 @@ pub fn take_all<S: Source>(alloc: Global, source: &mut S) -> Result<Vec<u8>, Tak
     ensures quiet { result ≢ Err TakeFault.Read → S.faults source.new ≡ S.faults source.old }
     ensures never_falls { S.faults source.old ≤ S.faults source.new }
 
-    // A source of which no coming call fails gives no `Read`.
+    // Where no later call of the source fails, `Read` doesn't come.
     ensures sure { S.never_fails source.old → result ≢ Err TakeFault.Read }
     ensures stays_sure { S.never_fails source.old → S.never_fails source.new }
 {
@@ -69,8 +69,8 @@ pub fn take_all<S: Source>(alloc: Global, source: &mut S) -> Result<Vec<u8>, Tak
 
 /// Writes all of `bytes` to a sink.
 ///
-/// On the refusal the sink's count of faults rose, and a proper prefix of `bytes` was written: some
-/// from its front, or none, and not all. For no bytes no call is made. It takes no memory.
+/// On `WriteFailed` the sink's count of faults rose, and a proper prefix of `bytes` was written,
+/// which may be empty. Where `bytes` is empty, no call is made. It takes no memory.
 pub fn put_all<K: Sink>(sink: &mut K, bytes: &[u8]) -> Result<(), WriteFailed>
     ensures all { OnOk result (Appends (K.written sink.old) (K.written sink.new) bytes.now) }
     ensures part { OnErr result (AppendsPart (K.written sink.old) (K.written sink.new) bytes.now) }
@@ -81,7 +81,7 @@ pub fn put_all<K: Sink>(sink: &mut K, bytes: &[u8]) -> Result<(), WriteFailed>
     ensures quiet { OnOk result (K.faults sink.new ≡ K.faults sink.old) }
     ensures never_falls { K.faults sink.old ≤ K.faults sink.new }
 
-    // A sink of which no coming call fails while it has room takes all, if it has room for them.
+    // A sink that has room for all bytes takes them all.
     ensures sure { (room : ℕ) → length bytes.now ≤ room → K.has_room sink.old room
         → IsOk result × K.has_room sink.new (room - length bytes.now) }
 {

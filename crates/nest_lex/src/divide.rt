@@ -146,8 +146,8 @@ fn marked_parts(bytes: &[u8], line: MarkerLine) -> Parts
 /// Divides an input into its nest, its data lines and its step words.
 ///
 /// The first line `data` or `steps` ends the nest, also inside a comment; spaces, tabs and carriage returns may stand
-/// behind the word, in any mixture. Data lines go up to the first line `steps` or the end. What the data lines and the
-/// step words are is not looked at.
+/// behind the word, in any mixture. Data lines go up to the first line `steps` or the end. The data lines and the step
+/// words aren't read here.
 pub fn parts(bytes: &[u8]) -> Parts
     requires { length bytes.now ≤ 33554432 }
     ensures { IsParts bytes.now result }

@@ -3,13 +3,13 @@
 /// The parts of an input, by places in its bytes, from 0.
 #[derive(Clone, Copy, Debug, PartialEq, Eq)]
 pub struct Parts {
-    /// Where the line that ends the nest begins, or the end.
+    /// Where the line that ends the nest begins, or the end of the input.
     pub nest_end: usize,
-    /// From behind the line `data` up to the line `steps` or the end.
+    /// From behind the line `data` up to the line `steps` or the end; `None` where there is no line `data`.
     pub values: Option<(usize, usize)>,
     /// The number of the line behind the line `data`, from 1; 0 where there is none.
     pub data_line: u32,
-    /// The place behind the line `steps`.
+    /// The place behind the line `steps`; `None` where there is none.
     pub steps: Option<usize>,
 }
 

@@ -13,8 +13,8 @@ use std::alloc::Global;
 /// The tokens of a text, or its first fault.
 ///
 /// Names are numbered from 0 in the order of their first appearance. Lines and columns count from 1, columns in
-/// bytes. `Fault` comes exactly where the text has no tokens, with the first fault of the text and its spot: a byte
-/// that begins no token, the first digit of what is no number, the start of a comment that isn't ended, or the token
+/// bytes. `Fault` comes only where the text has no tokens, with the first fault of the text and its spot: a byte that
+/// begins no token, the first digit of digits that are no number, the start of a comment that isn't ended, or the token
 /// that opens a 65th bracket or is the 129th of its run.
 pub fn lex(alloc: Global, bytes: &[u8]) -> Result<Tokens, LexRefused>
     requires { length bytes.now ≤ 33554432 }

@@ -7,7 +7,8 @@ use crate::scan::is_digit;
 /// The greatest number: 2^63 - 1.
 const GREATEST: u64 = 9_223_372_036_854_775_807;
 
-/// What decimal digits say, where it is at most so much. There is at least one, and zeros may stand in front.
+/// The number that decimal digits spell. None comes where there is no digit or another byte, or the number is above
+/// `most`. Zeros may stand in front.
 #[tactic(auto, using(crate::proofs::Numbers::no_digit, crate::proofs::Numbers::too_large, crate::proofs::Numbers::is_within))]
 pub fn number_within(most: u64, bytes: &[u8]) -> Option<u64>
     ensures { result ≡ number_within most bytes.now }

@@ -14,8 +14,8 @@ pub record Nest : Type 0 where
 abbrev pub most_bodies : ℕ
 most_bodies = 4096
 
--- A program as the check hands it out: it is well named and keeps the rules. A proof that needs the rules opens this by
--- its name; else each search over a nest would read all fourteen.
+-- A program as `check` gives it: it is well named and keeps the rules. A proof that needs the rules unfolds this by its
+-- name; otherwise each search over a nest would read all fourteen.
 unfoldable pub IsWellFormed : Program → Type 0
 IsWellFormed program = IsWellNamed program × KeepsRules program
 

@@ -33,9 +33,9 @@ pub struct TurnTrap {
     pub line: Line,
 }
 
-/// Runs one iteration of the body with this number, which `has_body` has. Each local begins with 0, whatever its name's
-/// scalar has. At a trap the words stand as they were at that moment. The scalars of the locals stand changed; all others
-/// are kept, since the bodies of a checked program assign locals alone.
+/// Runs one iteration of the body with this number; `has_body` says whether there is one. Each local begins with 0,
+/// whatever its name's scalar has. At a trap the words stay as they were at that moment. The scalars of the locals are
+/// changed; all others are kept, since the bodies of a checked program assign locals alone.
 pub fn run_turn(
     checked: &Checked,
     body: u32,
@@ -313,8 +313,8 @@ fn value_of(
     }
 }
 
-// How often a loop turns. A step of 0, which no checked program has, has the count that the definition gives it: no turn
-// below the high bound, and one through it.
+// How often a loop turns. For a step of 0, which no checked program has, the definition gives no turn, or one where the
+// loop goes through its high bound and `low` isn't above it.
 pub fn turns_of(low: i64, high: i64, step: u64, through: bool) -> Result<u64, Cause>
     ensures count { result ≡ counted (turns low high step through) }
     ensures reach { IfOk result (λ n. (k : ℕ) → k < n → FitsSigned w64 (variable low step k)) }

@@ -9,7 +9,7 @@ ghost use Rattle.nest_mean.specs.Added.{Adds, HasNames};
 use arrayvec::{ArrayVec, CapacityError};
 use nest_syntax::{Arm, Loop, Stmt};
 
-/// As many names as a checked body may have locals, and it changes no others.
+/// Room for the locals of a checked body, which changes no other names.
 pub(crate) type FewNames = ArrayVec<u32, 16>;
 
 /// The names that an invocation changes, each once. None comes where there are more than 16, as in no checked program.

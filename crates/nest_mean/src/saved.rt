@@ -74,8 +74,8 @@ fn take_over_arms(arms: &[Arm], assigned: bool, source: &[i64], target: &mut Sca
     }
 }
 
-/// Puts the scalars that an invocation changes back. By a list of names that has each of them once, where there is one,
-/// it costs by the names, and not by the text of the body.
+/// Puts the scalars that an invocation changes back. Where there is a list of their names, each once, the cost grows
+/// with the list, and not with the text of the body.
 pub(crate) fn put_back(
     invoked: &Loop,
     names: Option<&[u32]>,

@@ -76,7 +76,7 @@ binary (kind.Mark mark.AndAnd) = Some (8, bin.Both)
 binary (kind.Mark mark.OrOr) = Some (9, bin.Either)
 binary _ = None
 
--- The levels that hold the operators up to the shifts, and all of them.
+-- Below the first are the levels of the operators up to the shifts, below the second those of all operators.
 abbrev pub shift : ℕ
 shift = 3
 
@@ -222,15 +222,15 @@ pub record Derives (tokens : Tokens) (program : Program) : Type 0 where
   pub names : program.names ≡ tokens.names
   pub spelled : AreProgram tokens.list program.decls program.regions
 
--- Tokens can follow with which these are a program's.
+-- These tokens begin a program's tokens: further tokens, or none, complete them.
 pub record BeginProgram (tokens : List Token) : Type 0 where
   pub rest : List Token
   pub decls : List Decl
   pub regions : List Loop
   pub are : AreProgram (tokens ++ rest) decls regions
 
--- The first token at which the tokens can't be a program's any more, counted from 0: those before it begin a
--- program's tokens, and with it they don't. Where all of them begin a program's, their number, which names the end.
+-- The first token that can't follow those before it in any program, by its number from 0: those before it begin a
+-- program's tokens, and with it they don't. Where all tokens only begin a program's, their number, which names the end.
 pub record IsFaultAt (tokens : List Token) (at : ℕ) : Type 0 where
   pub within : at ≤ length tokens
   pub before : BeginProgram (take at tokens)

@@ -1,8 +1,8 @@
 //! The parser: tokens come in, the program that they spell goes out.
 //!
-//! `parse` gives the one program that the grammar derives from the tokens, and where there is none the first token at
-//! which they can't be a program's any more. The grammar is `specs/Grammar`; what a program means, and which programs
-//! keep the rules, is for other crates.
+//! `parse` gives the one program that the grammar derives from the tokens. Where there is none, it gives the first
+//! token that can't follow those before it in any program. The grammar is `specs/Grammar`; what a program means, and
+//! which programs keep the rules, is for other crates.
 #![tactic(auto)]
 
 mod cursor;

@@ -65,8 +65,9 @@ fn copy_names(alloc: Global, names: &Items<Name>) -> Result<Items<Name>, AllocEr
 
 /// The program that the tokens spell, with their names.
 ///
-/// A list of tokens spells at most one program. `Syntax` comes exactly where the tokens spell none: the tokens before
-/// the one that it names begin a program's tokens, and with it they don't; the number of all tokens names the end.
+/// A list of tokens spells at most one program. `Syntax` comes only where the tokens spell none. It names the first
+/// token that can't follow those before it in any program, by its number from 0; the number of all tokens names the
+/// end.
 pub fn parse(alloc: Global, tokens: &Tokens) -> Result<Program, ParseRefused>
     requires { AreWellNamed tokens.now }
     ensures derives { IfOk result (λ p. grammar.Derives tokens.now p) }

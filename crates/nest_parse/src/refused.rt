@@ -8,7 +8,7 @@ use thiserror::Error;
 /// Why tokens give no program.
 #[derive(Clone, Copy, Debug, Drop, PartialEq, Eq, Error)]
 pub enum ParseRefused {
-    /// The first token at which the tokens can't be a program's any more, by its number from 0; the number of all
+    /// The first token that can't follow those before it in any program, by its number from 0; the number of all
     /// tokens names the end.
     #[error("no program")]
     Syntax { token: usize },

@@ -10,7 +10,7 @@ use nest_syntax::Expr;
 use sqlite_items::Boxed;
 use std::alloc::Global;
 
-/// The level of all operators, and that of the operators up to the shifts.
+/// Two depths for `terms`: below the first are the levels of all operators, below the second those up to the shifts.
 pub(crate) const LOOSEST: usize = 10;
 
 pub(crate) const SHIFT: usize = 3;

@@ -16,8 +16,8 @@ use nest_syntax::{Expr, NoMemory};
 use std::alloc::Global;
 use std::marker::Model;
 
-/// What of a program depends on its written arrays, those that aren't `const`. A body is told by its number, counted
-/// from 0 in the order of the text; a number from that of the bodies on counts as that of a body without statements.
+/// What of a program depends on its written arrays, those that aren't `const`. A body is named by its number, from 0 in
+/// the order of the text; a number that no body has counts as that of a body without statements.
 #[derive(Debug, Drop)]
 pub struct Split {
     written: WrittenArrays,

@@ -433,9 +433,8 @@ fn add_decl(out: &mut Vec<u8>, names: &[Name], decl: &Decl) -> Result<(), NoMemo
 /// The canonical text of a program: declarations and statements on lines of their own, two spaces for each depth of
 /// blocks, parentheses round each operand that isn't a number, a name or a word, and no comment.
 ///
-/// It comes back: where some text spells the program, and where the canonical text has tokens, these derive a program
-/// that is the same but for its lines; each name has its number. A text with long runs or many open brackets has no
-/// tokens.
+/// It comes back: where some text spells the program and the canonical text has tokens, these derive the same program
+/// but for its lines, with the same numbers of names. A text with long runs or many open brackets has no tokens.
 pub fn print_program(alloc: Global, program: &Program) -> Result<Vec<u8>, NoMemory>
     requires { IsWellNamed program.now }
     ensures canonical { IfOk result (λ out. out.items ≡ text.canonical_text program.now) }

@@ -30,7 +30,7 @@ Scope = List Binding
 abbrev pub bound : Scope → ℕ → Binding
 bound scope name = slice_index_or scope name binding.Unbound
 
--- the scope with a name bound anew
+-- the scope with a new binding of a name
 abbrev pub with_bound : Scope → ℕ → Binding → Scope
 with_bound scope name to = slice_set scope name to
 

@@ -12,13 +12,13 @@ use Rattle.nest_scope.specs.declared.occurrences.Action.TheVariants as action
 use Rattle.nest_scope.specs.declared.occurrences.Occurrence.{Occurrence}
 use Rattle.nest_scope.specs.Occurrences.{occurrences_of}
 
--- No name is declared while a declaration of it is in scope.
+-- whether a name is declared while a declaration of it is in scope
 abbrev pub is_redeclared : Action → Binding → Bool
 is_redeclared action.Declared binding.Unbound = false
 is_redeclared action.Declared to = true
 is_redeclared does to = false
 
--- whether a name is bound to no scalar, and whether to no array
+-- whether a binding isn't that of a scalar, and whether it isn't that of an array: both hold of `Unbound`
 abbrev pub is_no_scalar : Binding → Bool
 is_no_scalar binding.Unbound = true
 is_no_scalar binding.Array = true
@@ -30,7 +30,7 @@ is_no_array binding.Array = false
 is_no_array binding.ConstArray = false
 is_no_array to = true
 
--- Each used name is in scope, as an array where it has a subscript and as a scalar elsewhere.
+-- whether a used name isn't in scope, or is no array where it has a subscript, or no scalar where it has none
 abbrev pub is_unknown : Action → Binding → Bool
 is_unknown action.Declared to = false
 is_unknown action.ScalarRead to = is_no_scalar to
@@ -38,18 +38,18 @@ is_unknown action.Assigned to = is_no_scalar to
 is_unknown action.WordRead to = is_no_array to
 is_unknown action.WordWritten to = is_no_array to
 
--- No `const` array is written.
+-- whether a word of a `const` array is written
 abbrev pub is_const_written : Action → Binding → Bool
 is_const_written action.WordWritten binding.ConstArray = true
 is_const_written does to = false
 
--- No loop variable is assigned in its loop.
+-- whether the variable of a loop is assigned in that loop
 abbrev pub is_loop_variable_assigned : Action → Binding → Bool
 is_loop_variable_assigned action.Assigned binding.RegionVariable = true
 is_loop_variable_assigned action.Assigned binding.LoopVariable = true
 is_loop_variable_assigned does to = false
 
--- No body assigns a scalar of the scheduler.
+-- whether a body assigns a scalar of the scheduler, the variable of a region among them
 abbrev pub is_scheduler_scalar_assigned : Level → Action → Binding → Bool
 is_scheduler_scalar_assigned level.Body action.Assigned binding.SchedulerScalar = true
 is_scheduler_scalar_assigned level.Body action.Assigned binding.RegionVariable = true
@@ -59,7 +59,7 @@ is_scheduler_scalar_assigned at does to = false
 abbrev pub line_of : Occurrence → Line
 line_of o = o.line
 
--- whether an occurrence breaks each rule
+-- whether an occurrence breaks a rule, for each of the five
 abbrev pub redeclares : Occurrence → Bool
 redeclares o = is_redeclared o.action o.binding
 
@@ -75,7 +75,7 @@ assigns_loop_variable o = is_loop_variable_assigned o.action o.binding
 abbrev pub assigns_scheduler_scalar : Occurrence → Bool
 assigns_scheduler_scalar o = is_scheduler_scalar_assigned o.level o.action o.binding
 
--- the lines that break each rule
+-- for each of the five rules, the lines that break it, in the order of the text
 abbrev pub lines_redeclared : Program → List Line
 lines_redeclared program = lines_where line_of redeclares (occurrences_of program)
 

@@ -1,5 +1,5 @@
--- What the scheduler does: the course of a program, a tree of its events. An item that invokes a body is told by the
--- body's number; the others are carried out by the scheduler.
+-- What the scheduler does: the course of a program, a tree of its events. A body that an item invokes stands there as
+-- its number; the scheduler carries out the other items.
 use Rattle.std.specs.Prelude.{ℕ, zero, suc, ◌+◌, ℤ, pos, if◌then◌else◌, Result, Ok, Err, List, [], ◌∷◌, ◌++◌, map, length, replicate}
 use Rattle.std.specs.List.{list_any}
 use Rattle.nest_syntax.specs.declared.names.Line.{Line}
@@ -47,8 +47,8 @@ computed line (Err cause) go = Failed cause line
 abbrev pub event : {A : Type 0} → Setting → Purpose → List ℤ → Line → List Expr → (List ℤ → Result A Cause) → (A → Course) → Course
 event setting purpose scalars line exprs compute go = if list_any (names_written setting.arrays) exprs then Drain purpose scalars (λ words. computed line (compute words) go) else Scalar purpose scalars (computed line (compute setting.words) go)
 
--- What an item is: the bodies that it holds, in textual order, which its events number, and its events, from the number of
--- its first body and the scalars, before what follows.
+-- What an item is: the bodies that it holds, in textual order, and its events. The events name bodies by number; they
+-- are given the number of the item's first body, the scalars, and what follows the item.
 pub record Item : Type 0 where
   pub bodies : List (List Stmt)
   pub events : ℕ → List ℤ → (List ℤ → Course) → Course
@@ -61,7 +61,7 @@ in_order (item ∷ items) = let others = in_order items in record {
   events = λ first scalars go. item.events first scalars (λ after. others.events (first + length item.bodies) after go);
 }
 
--- no body, and one event that computes the scalars anew
+-- no body, and one event that computes new scalars
 abbrev pub computing : Setting → Line → Expr → (List ℤ → List ℤ → Result (List ℤ) Cause) → Item
 computing setting line expr compute = record {
   bodies = [];

@@ -1,6 +1,6 @@
 //! The tree of a nest: what a parser gives, and what everything above reads.
 //!
-//! No function here does more than make, copy or convert a value, or state a law; `Lowest` keeps the lowest of the lines that
+//! The functions here only make, copy or convert values, or state a law; `Lowest` keeps the lowest of the lines that
 //! break a rule. `specs/` holds the meaning of a tree: words, values, the turn of an iteration, the course of a program
 //! and its outcome.
 #![tactic(auto)]

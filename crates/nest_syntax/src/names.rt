@@ -1,7 +1,7 @@
 use sqlite_items::Items;
 use std::alloc::{AllocError, AllocFailed};
 
-/// There was no memory left. The one answer that no clause ties to a cause.
+/// Memory ran out. No clause says when this answer comes.
 #[derive(Clone, Copy, Debug, PartialEq, Eq)]
 pub struct NoMemory;
 

@@ -83,8 +83,8 @@ trap_of (course.Iterate body scalars rest) = None
 trap_of (course.Close scalars rest) = None
 
 -- A cursor follows a course: it stands at the first event of it, and the cursor behind the event follows the rest, where
--- the event doesn't trap. At an iteration, `what` tells of the body that the cursor gives which body of the program it is,
--- with which scalars: it is the course's iteration.
+-- the event doesn't trap. At an iteration, `what` maps the body that the cursor gives to the number of a body of the
+-- program and scalars: those of the course's iteration.
 abbrev pub Follows : {B C : Type 0} → Nest → (B → ℕ × List ℤ) → (C → Event B C) → C → Course → Type 0
 Follows nest what event cursor course.End = event cursor ≡ End
 Follows nest what event cursor (course.Failed cause line) = ⊥

@@ -31,7 +31,7 @@ abbrev pub one_more : ℕ → ℕ
 one_more n = if is_full n then 0 else suc n
 
 -- The cut turn, n pure operations behind the last stop. Behind the 32nd comes a pause, before any other stop, also
--- where a stop stands there anyway; every stop starts the count anew.
+-- where a stop stands there anyway; the count starts again from 0 at every stop.
 abbrev pub cut : List ℕ → ℕ → Turn → Cut
 cut sizes n turn.Finished = Finished
 cut sizes n (turn.Trapped cause line) = Trapped cause line

@@ -6,8 +6,8 @@ use crate::words::next_word;
 use nest_lex::number_within;
 use std::alloc::Global;
 
-/// The actors that the words name, of a machine with so many workers: each word is decimal digits, at most `workers + 1`.
-/// Refused with the first word that isn't.
+/// The actors that the words name, of a machine with so many workers: each word is decimal digits, at most
+/// `workers + 1`. `Word` tells the number, from 0, of the first word that isn't.
 pub fn read_steps(alloc: Global, bytes: &[u8], workers: u8) -> Result<Vec<u8>, StepsRefused>
     requires few { workers ≤ 8 }
     requires small { length bytes.now ≤ 33554432 }

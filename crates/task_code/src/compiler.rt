@@ -16,7 +16,7 @@ use nest_syntax::NoMemory;
 use std::alloc::Global;
 use task_hop::End;
 
-/// The code of a program's bodies. It takes time and memory by the text of the program.
+/// The code of a program's bodies. Its time and memory grow with the text of the program.
 pub fn compile(alloc: Global, checked: &Checked) -> Result<TaskCode, NoMemory>
     ensures { IfOk result (λ code. IsCodeOf checked.now code) }
 {

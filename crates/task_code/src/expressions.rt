@@ -10,7 +10,7 @@ use crate::layout::Layout;
 use nest_syntax::{Bin, Expr, Line, NoMemory};
 use task_hop::{End, Jump, Operand, Operation, Register, Way};
 
-/// Adds an instruction, and answers its address. Addresses are below 2^32: code that is longer counts as want of memory.
+/// Adds an instruction, and answers its address. Addresses are below 2^32: longer code is refused with `NoMemory`.
 #[tactic(auto, using(crate::proofs::Sized::sized_one))]
 pub(crate) fn emit(code: &mut Vec<Instruction>, instruction: Instruction) -> Result<u32, NoMemory>
     ensures code { IfOk result (λ at. Emits code.old.items code.new.items (λ c. instruction_at c at ≡ instruction)) }
@@ -38,7 +38,7 @@ pub(crate) fn reserve(code: &mut Vec<Instruction>) -> Result<u32, NoMemory>
 }
 
 /// Adds the code that reckons an expression and then goes on at `next`, and answers the address at which it begins. The
-/// value is in the expression's operand then; temporaries from `into` on are used. Code is added from its end on.
+/// value is then in the expression's operand; temporaries from `into` on are used. Code is added back to front.
 pub(crate) fn reckon(
     expr: &Expr,
     line: Line,

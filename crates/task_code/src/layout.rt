@@ -43,7 +43,7 @@ impl Layout<'_> {
         slot as u8
     }
 
-    /// Where the value of an expression is that is reckoned into a temporary.
+    /// Where the value of an expression is: in the temporary `into`, unless the expression is a number or a name.
     pub fn operand(&self, expr: &Expr, into: u8) -> Operand
         requires { length self.now.locals.now ≤ 16 }
         ensures { result ≡ operand_of self.now.checked.now self.now.locals.now into expr.now }
@@ -73,7 +73,7 @@ impl Layout<'_> {
         Way { set, next: entry }
     }
 
-    /// An array as code names it. One of a name that is no array's has no place.
+    /// An array as code names it. Where the name is no array's, every subscript is outside.
     pub fn subscript(&self, name: u32, at: Operand, line: Line) -> Subscript
         ensures { result ≡ subscript_of self.now.checked.now name at line }
     {

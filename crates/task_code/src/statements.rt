@@ -15,7 +15,7 @@ use nest_syntax::{Arm, Loop, NoMemory, Op, Stmt};
 use task_hop::{End, Jump, Register, Round};
 
 /// Adds the code of statements, one after the other, which then goes on at `next`, and answers the address at which it
-/// begins. It uses the temporaries from `into` on. Code is added from its end on.
+/// begins. It uses the temporaries from `into` on. Code is added back to front.
 #[cycle(compile)]
 pub(crate) fn compile_block(
     stmts: &[Stmt],

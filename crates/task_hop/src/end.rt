@@ -41,7 +41,7 @@ pub struct Subscript {
 #[derive(Clone, Copy, Debug, PartialEq, Eq)]
 pub enum Jump {
     To(u32),
-    /// By a test: one way where it is 0, the other else.
+    /// By a test: the way `zero` where it is 0, else the way `other`.
     Branch {
         test: Operand,
         zero: Way,

@@ -6,8 +6,8 @@ ghost use Rattle.task_hop.specs.Meaning as hop;
 use nest_syntax::Cause;
 use word_store::count_turns;
 
-/// How often a loop turns. With a step of 0, which no checked program has, it turns as often as the definition says: never
-/// below the high bound, and once through it.
+/// How often a loop turns. For a step of 0, which no checked program has, the definition gives no turn, or one where
+/// the loop goes through its high bound and `low` isn't above it.
 pub(crate) fn turns_of(low: i64, high: i64, step: u64, through: bool) -> Result<u64, Cause>
     ensures count { result ≡ counted (turns low high step through) }
     ensures reach { IfOk result (λ n. (k : ℕ) → k < n → FitsSigned w64 (variable low step k)) }

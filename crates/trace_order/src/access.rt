@@ -1,8 +1,8 @@
 ghost use Rattle.std.specs.Prelude.{IsTrue, ◌↔◌};
 ghost use Rattle.trace_order.specs.Swaps.{Swapped, traced};
 
-/// An access of a task to a word, with the value that was read or written. Words are numbered over all arrays, one array
-/// after another in order of declaration.
+/// An access of a task to a word, with the value that was read or written. Words are numbered from 0 over all arrays,
+/// one array after another in order of declaration.
 #[derive(Clone, Copy, Debug, PartialEq, Eq)]
 pub struct Access {
     pub task: u64,

@@ -8,7 +8,7 @@ use crate::access::Access;
 /// The first pair of accesses that conflict and don't stand in the order of their tasks, as places from 0: first by the
 /// place of its second access, then by that of its first. None comes exactly where the accesses are in order.
 ///
-/// It takes no memory, and so each access is compared with those before it.
+/// It takes no memory: each access is compared with all those before it.
 pub fn in_order(accesses: &[Access]) -> Option<(usize, usize)>
     ensures { MatchOption result (InOrder (map traced accesses.now)) (λ pair. IsFirstSwap (map traced accesses.now) pair.0 pair.1) }
 {

@@ -33,7 +33,8 @@ fn put(words: &mut Words, word: u32, value: i64) -> Result<(), NoMemory>
     Ok(())
 }
 
-// The array that has the word with this number, and its place there. No memory has as many arrays as can't be numbered.
+// The array that has the word with this number, and its place there. `NoMemory` comes for an array whose number passes
+// 32 bits.
 fn locate(words: &Words, word: u32) -> Result<(u32, i64), NoMemory>
     requires { word < length words.now.words }
     ensures array { IfOk result (λ at. at.0 < length words.now.sizes) }

@@ -7,8 +7,9 @@ use nest_syntax::Cause;
 /// The most turns that a loop may have.
 const MOST_TURNS: u64 = 16_777_216;
 
-/// How often a loop turns whose variable goes from `low` by `step` while it is below `high`, or `through` it. `Loop`
-/// comes exactly where that is more than 16,777,216 times. In each turn that is counted the variable is a word.
+/// How often a loop turns: its variable goes from `low` by `step` while it is below `high`, or at most `high` where
+/// `through` is set. `Loop` comes exactly where that is more than 16,777,216 times. In each turn the variable is a
+/// word.
 pub fn count_turns(low: i64, high: i64, step: u64, through: bool) -> Result<u64, Cause>
     requires { 0 < step }
     ensures count { result ≡ counted (turns low high step through) }
