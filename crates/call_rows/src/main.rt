@@ -2,8 +2,8 @@
 //! what it wrote.
 //!
 //! A row is a line `call READ WRITE LENGTH WORDS`, and then its input. An empty line stands between two rows. READ
-//! and WRITE are the numbers, from 0, of the read and of the write that fail; to LENGTH bytes the input is filled with
-//! white space.
+//! and WRITE are the numbers, from 0, of the read and of the write that fail. The input is filled up with white space
+//! to LENGTH bytes.
 //! The source gives 7 bytes a read, the sink takes 4 a write. `stdout` has what is wanted, worked out by hand.
 #![tactic(auto)]
 

@@ -37,7 +37,7 @@ impl Checkpoint {
         words.copy_from(&self.marked);
     }
 
-    /// Marks the words anew.
+    /// Marks these words in place of those last marked.
     pub fn commit(&mut self, words: &Words)
         requires { words.now.sizes ≡ self.old.sizes }
         ensures { self.new ≡ words.now }

@@ -3,8 +3,9 @@ ghost use Rattle.cross_top.specs.Answers.{OneAnswer};
 use nest_input::one_saying;
 use nest_runtime::facts_are_due;
 
-/// A law: with the same steps an input has one answer, by `speccross` and `barrier` but for the facts. For an action that
-/// runs no engine the bytes that are due are so a function of words and input.
+/// A law: two answers to one call and input are the same, where their steps are the same, they refuse the same step of
+/// `replay` or none, and they tell the same distance of `profile`. By `speccross` and `barrier` they may differ in the
+/// facts. So the bytes of `plain`, `check`, `deps` and `gen` are a function of words and input.
 pub fn one_answer()
     ensures { OneAnswer }
 {

@@ -17,13 +17,14 @@ pub enum Status {
     TextRefused,
     /// A read failed, and nothing was written.
     ReadFault,
-    /// A write failed, and a proper prefix of what was due was written.
+    /// A write failed: what was due was written only in part, from its front, perhaps nothing of it.
     WriteFault,
     /// There was no memory left, and nothing was written.
     NoMemory,
 }
 
-/// The end of a call: its status, and the steps that its engine made, which is none for an action without an engine.
+/// The end of a call: its status, and the steps of its engine that are handed back. There are none for `big`, for an
+/// action without an engine, for a refusal, and where a read failed or memory ran out.
 #[derive(Debug, Drop)]
 pub struct Ended {
     pub status: Status,

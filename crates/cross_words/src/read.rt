@@ -32,7 +32,7 @@ fn call_of(texts: &ArgMatches) -> Option<Call>
     })
 }
 
-/// The call that the words behind the program's name say. `Words` comes exactly where they say none.
+/// The call that the words behind the program's name say. `Words` comes only where they say none.
 pub fn read_words(alloc: Global, words: &[String]) -> Result<Call, WordsRefused>
     ensures { MatchResult result (λ call. Say (map string_bytes words.now) call) (λ e. e ≡ Words → (call : Call) → Say (map string_bytes words.now) call → ⊥) }
 {

@@ -2,7 +2,7 @@ use crate::wait::Wait;
 use arrayvec::ArrayVec;
 use task_frame::Piece;
 
-/// What a worker holds: nothing, an iteration with the waits that it hasn't passed yet, or nothing ever more.
+/// What a worker holds: nothing, or an iteration with the waits that it hasn't passed yet; or its part is ended.
 #[derive(Drop)]
 pub enum Held {
     Nothing,

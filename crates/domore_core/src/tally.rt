@@ -72,7 +72,7 @@ impl Tally {
         }
     }
 
-    /// A drain is carried out. The count stops at the most that it can say.
+    /// A drain is carried out. The count stays at 2^64 - 1 once it is there.
     pub(crate) fn drain(&mut self)
         ensures { self.new ≡ record self.old { facts = drained self.old.facts } }
     {

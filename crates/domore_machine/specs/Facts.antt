@@ -31,7 +31,8 @@ abbrev pub computed : ℕ → Purpose → Facts → Facts
 computed next Ordinary facts = facts
 computed next Header facts = record facts { invocations = suc facts.invocations; first = next }
 
--- The most drains that are told: the count stays there. How many tests there are nothing bounds, so neither are drains.
+-- The greatest count of drains: it stays there. It is needed since nothing bounds the number of tests, and so of
+-- drains.
 abbrev pub most_drains : ℕ
 most_drains = 2 ^ 64 - 1
 

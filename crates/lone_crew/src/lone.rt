@@ -83,7 +83,8 @@ fn follow<M: Machine>(
     Ok(())
 }
 
-// Lets the actor of a schedule's entry make its step. False says that it is none, or has none.
+// Lets the actor of a schedule's entry make its step. False says that the entry names no actor, or that its actor has
+// no step.
 pub(crate) fn follow_entry<M: Machine>(
     machine: &mut M,
     entry: u8,

@@ -4,7 +4,7 @@ use thiserror::Error;
 /// Why a run of given steps ended early.
 #[derive(Clone, Copy, Debug, PartialEq, Eq, Error)]
 pub enum StepRefused {
-    /// The first step, by its number from 0, whose actor is none or has no enabled row.
+    /// The number, from 0, of the first step that names no actor, or whose actor has no enabled row.
     #[error("a step that isn't enabled")]
     Step(u64),
     #[error("out of memory")]

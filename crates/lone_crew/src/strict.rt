@@ -11,8 +11,9 @@ use progress_board::Machine;
 
 /// Makes given steps, and then drives the machine to its end as `lone_run` does.
 ///
-/// `Step` names the first step, from 0, whose actor is none or has no enabled row; the steps before it are made then. What
-/// is appended to the history is exactly the steps that were made, in order, at a refusal too.
+/// `Step` has the number, from 0, of the first step that names no actor, or whose actor has no enabled row; the steps
+/// before it are made then. What is appended to the history is exactly the steps that were made, in order, at a refusal
+/// too.
 ///
 /// After `history.reserve(n)` the next n steps take no memory.
 pub fn strict_run<M: Machine>(

@@ -1,5 +1,5 @@
--- The least distance of a job: how many epochs are at least between two tasks of one segment, of different epochs and
--- workers, whose hulls overlap. No schedule has a part in it.
+-- The least distance of a job: the least difference of epoch numbers, 1 for neighbours, of two tasks of one segment, of
+-- different epochs and workers, whose hulls overlap. It doesn't depend on the schedule.
 use Rattle.std.specs.Prelude.{◌≡◌, ℕ, ◌+◌, ◌≤◌, Option, Some, None}
 use Rattle.nest_mean.specs.Nest.{Nest}
 use Rattle.task_code.specs.Code.{Code}

@@ -39,7 +39,7 @@ use word_store::Words;
 pub(crate) struct Course {
     pub(crate) cursor: Cursor,
     words: Words,
-    /// Whether textual order gets there. Where it doesn't, the words are of no account.
+    /// Whether textual order gets there. Where it doesn't, the words mean nothing.
     pub(crate) is_reached: bool,
     // The scalars and the claims of the last iteration are kept for the room that they take.
     scalars: Scalars,
@@ -85,8 +85,8 @@ impl Course {
         self.is_reached && self.cursor.advance(job.checked(), &self.words).is_none()
     }
 
-    /// Goes through the invocation that was entered, the epoch with this index: the hulls of its tasks come into a row of
-    /// signatures of nothing.
+    /// Goes through the invocation that was entered, the epoch with this index: the hulls of its tasks are put into a
+    /// row of signatures with nothing noted.
     pub(crate) fn cross<G: Signature>(
         &mut self,
         job: &Job,

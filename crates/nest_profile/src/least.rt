@@ -11,9 +11,10 @@ use progress_board::{Options, Sign};
 use range_sign::{ExactSign, RangeSign, Signature};
 use std::alloc::Global;
 
-/// The least distance of a job: how many epochs are at least between two tasks of one segment, of different epochs and
-/// workers, whose hulls overlap. A hull is the signature, of the kind that the options say, of what the iterations of a
-/// task claim. None comes exactly where there are no such tasks. Segments are those that textual order reaches.
+/// The least distance of a job: the least difference of epoch numbers, 1 for neighbours, of two tasks of one segment,
+/// of different epochs and workers, whose hulls overlap. A hull is the signature, of the kind that the options say, of
+/// what the iterations of a task claim. None comes exactly where there are no such tasks. Segments are those that
+/// textual order reaches.
 ///
 /// All memory is taken before the first event. The cost is that of the run in textual order, of the claims of all
 /// iterations, and of comparing the tasks of a segment that are no further apart than the answer.

@@ -1,8 +1,8 @@
-//! The least distance of a job: how many epochs are at least between two tasks that must not pass each other.
+//! The least distance of a job: the least difference of the epoch numbers of two tasks whose hulls overlap.
 //!
-//! In come a job and options, out comes the least distance, or none. It is by the claims of the iterations, so no schedule
-//! has a part in it: where the set distance is below it, no history of the speculative engine has an overlap.
-//! `specs/Least.antt` has the definition.
+//! In come a job and options, out comes the least distance, or none. It is found from the claims of the iterations, so
+//! it doesn't depend on the schedule. Where the set distance is below it, no history of the speculative engine has a
+//! rollback for an overlap. `specs/Least.antt` has the definition.
 #![tactic(auto)]
 
 mod course;

@@ -8,8 +8,8 @@ ghost use Rattle.nest_profile.specs.Nearest.{Tells, MeetsOther, MeetsAt, Meet, M
 use crate::row::Row;
 use range_sign::Signature;
 
-/// The least distance, below a bound, of two of the first rows in which signatures of different workers overlap. Distances
-/// are looked at from 1 upwards, so no pair is compared that is further apart.
+/// The least distance, below `bound`, of two of the first `count` rows in which signatures of different workers
+/// overlap. Distances are tried from 1 upwards, so no pair further apart than the answer is compared.
 pub(crate) fn nearest<G: Signature>(rows: &[Row<G>], count: usize, bound: usize) -> Option<usize>
     requires inside { count ≤ length rows.now }
     requires even { (sizes : List ℕ) × Each (IsEven G.sizes_of sizes) rows.now }

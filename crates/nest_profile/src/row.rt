@@ -12,7 +12,7 @@ pub(crate) struct Row<G: Signature> {
 }
 
 impl<G: Signature> Row<G> {
-    /// Signatures of nothing.
+    /// Signatures with nothing noted.
     pub(crate) fn open(alloc: Global, lengths: &[u64], workers: u8) -> Result<Row<G>, NoMemory>
         requires { sum lengths.now ≤ most_words }
         ensures { IfOk result (λ row. row.signs.items ≡ replicate workers (G.nothing lengths.now)) }

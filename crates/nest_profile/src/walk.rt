@@ -33,7 +33,7 @@ pub(crate) struct Walk<G: Signature> {
     course: Course,
     /// A row for each epoch of a segment.
     rows: Vec<Row<G>>,
-    /// How many epochs are gathered. The rows behind them are of nothing.
+    /// How many epochs are gathered. The rows behind them have nothing noted.
     count: usize,
     best: Option<usize>,
 }
@@ -143,8 +143,8 @@ impl<G: Signature> Walk<G> {
     }
 }
 
-// The bound below which a distance is nearer than the least one so far: no two of so many epochs are as far apart as they
-// are many.
+// The bound below which a distance is looked for: the least one so far, or the number of epochs where that is less. Two
+// epochs are always nearer than there are epochs.
 fn bound_by(best: Option<usize>, count: usize) -> usize
     ensures { result ≡ bound_by best count }
 {

@@ -34,7 +34,7 @@ pub fn run_alone(
 /// Runs a job with the engine of its options, on the caller's thread: given steps, each of which has to be enabled in its
 /// turn, and then the rotation.
 ///
-/// `Step` names the first step, from 0, whose actor is none or has no enabled row.
+/// `Step` has the number, from 0, of the first step that names no actor, or whose actor has no enabled row.
 pub fn run_strict(
     alloc: Global,
     job: Job,

@@ -26,7 +26,7 @@ pub fn drive_alone<M: Machine>(alloc: Global, machine: M, schedule: &[u8]) -> Re
 
 /// Makes given steps, each of which has to be enabled in its turn, and then runs the machine to its end by the rotation.
 ///
-/// `Step` names the first step, from 0, whose actor is none or has no enabled row.
+/// `Step` has the number, from 0, of the first step that names no actor, or whose actor has no enabled row.
 pub fn drive_strict<M: Machine>(alloc: Global, machine: M, steps: &[u8]) -> Result<Ran, StepRefused>
     ensures run { IfOk result (λ ran. IsRun M.step M.is_finished M.ending_of M.words_of M.facts_of machine ran.outcome ran.facts ran.history.items) }
     ensures enabled { IfOk result (λ ran. taken M.step machine steps.now ≡ steps.now) }

@@ -19,7 +19,7 @@ pub enum RollCause {
         late: TaskName,
         array: u32,
     },
-    /// A task trapped while it was ahead.
+    /// A task trapped while the distance was above 0.
     Trap {
         task: TaskName,
     },
@@ -48,7 +48,7 @@ pub struct Facts {
     pub invocations: u64,
     /// Iterations that the scheduler passed.
     pub iterations: u64,
-    /// Drain events that were carried out, also one that trapped.
+    /// Drain events that were carried out, also one that trapped. The count stays at 2^64 - 1 once it is there.
     pub drains: u64,
     /// Waits of all tickets that were put.
     pub waits: u64,

@@ -61,8 +61,8 @@ pub trait Machine: Send + Drop {
         requires { actor < actors_of (options_of self.now) }
         ensures { result ≡ asked self.now actor };
 
-    /// Makes the actor's row, where what is given is the work that `ask` answers, and says which row it was. The error
-    /// comes exactly where it isn't; it is the answer of `ask`, and nothing has changed then.
+    /// Makes the actor's row, where what is given is the work that `ask` answers, and says which row it was. Otherwise
+    /// the error is the answer of `ask`, and nothing has changed.
     fn give(&mut self, actor: u8, given: Given) -> Result<Made, Ask>
         requires { actor < actors_of (options_of self.old) }
         ensures made { IfOk result (λ made. (asked self.old actor ≡ Ready (work_of given)) × (step self.old actor ≡ Some self.new) × (made ≡ made_by self.old actor)) }

@@ -29,8 +29,8 @@ pub trait Signature: Drop {
 
     ghost with_note: { Self → ℕ → ℕ → Bool → Self };
 
-    /// Nothing is noted, of arrays of these lengths: at most 1,048,576 together. More arrays than that, which only lengths of
-    /// 0 allow, are answered as out of memory.
+    /// A signature with nothing noted, for arrays of these lengths, which add up to at most 1,048,576. For more arrays
+    /// than that, as lengths of 0 allow, the answer is `NoMemory`.
     fn make(alloc: Global, lengths: &[u64]) -> Result<Self, NoMemory>
     where
         Self: Sized,

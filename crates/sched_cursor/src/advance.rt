@@ -12,9 +12,9 @@ use nest_syntax::{Cause, Line, Place};
 use word_store::Words;
 
 impl Cursor {
-    /// Goes behind the event at which the cursor stands, computed on these words: what it reads are the present words at
-    /// a drain, and `const` words elsewhere. A place comes exactly where the event traps; the cursor is then as it was.
-    /// At the end of the program nothing happens.
+    /// Goes behind the event at which the cursor stands, computed on these words. Only a drain reads words that are not
+    /// `const`. The place of a trap comes exactly where the event traps; the cursor is then as it was. At the end of
+    /// the program nothing happens.
     pub fn advance(&mut self, checked: &Checked, words: &Words) -> Option<Place>
         requires of { IsCursorOf checked.now self.old }
         requires sizes { HasLayout words.now checked.now.decls }

@@ -109,7 +109,7 @@ impl Header {
     }
 }
 
-// The new value of a scalar under `=` or `op=`. The old one is read behind the right side's evaluation.
+// The new value of a scalar under `=` or `op=`. The old one is read after the right side is evaluated.
 fn changed(
     name: u32,
     op: Op,

@@ -31,7 +31,7 @@ impl Model for Shadow {
 }
 
 impl Shadow {
-    /// Nothing noted, for programs of so many words and for at most 8 workers.
+    /// A shadow with nothing noted, for this many words and workers. There are at most 8 workers.
     pub fn new(alloc: Global, words: u32, workers: u8) -> Result<Shadow, NoMemory>
         requires { workers ≤ 8 }
         ensures words { IfOk result (λ made. made.words ≡ words) }
@@ -48,8 +48,8 @@ impl Shadow {
     }
 
     /// What an iteration of a worker with these claims has to wait for, by worker: the greatest number noted of another
-    /// worker whose claims conflict with them. None comes exactly where none does, and for the worker itself. Costs a
-    /// walk over the claims, once for all workers.
+    /// worker whose claims conflict with them. A place is None exactly where no such number was noted, and for the
+    /// worker itself. Costs a walk over the claims, once for all workers.
     pub fn need(&self, claims: &Claims, worker: u8) -> [Option<u64>; 8]
         requires words { words_of claims.now ≤ self.now.words }
         requires worker { worker < self.now.workers }
@@ -67,7 +67,8 @@ impl Shadow {
         needs
     }
 
-    /// Notes an iteration of a worker, by its number and its claims. Costs a walk over the claims.
+    /// Notes an iteration of a worker, by its number, which is below 2^64 - 1, and its claims. Costs a walk over the
+    /// claims.
     pub fn note(&mut self, claims: &Claims, worker: u8, number: u64)
         requires words { words_of claims.now ≤ self.old.words }
         requires worker { worker < self.old.workers }

@@ -106,11 +106,11 @@ impl Checker {
         None
     }
 
-    /// The pair due, the early task first: the first unordered pair that isn't passed, where its late task and every task
-    /// before that one are finished. None comes exactly where no pair is due: where none that is unordered and isn't passed
-    /// has such a late task. `finished` has for each of 1 to 8 workers how many epochs of the segment it has finished, and
-    /// `seen` at `epoch * workers + worker` what a task saw as it began, for each that is finished. Costs the pairs that it
-    /// looks at, from the last one passed on, without those that end before all that a late task saw.
+    /// The pair due, the early task first: the first unordered pair that isn't passed, where its late task and every
+    /// task before that one are finished. None comes exactly where there is no such pair. `finished` has for each of 1
+    /// to 8 workers how many epochs of the segment it has finished. `seen` has what a task saw as it began, at
+    /// `epoch * workers + worker`, for each finished task. Costs the pairs that it looks at: those from the
+    /// last one passed on, but none whose early epoch all workers had finished when the late task began.
     pub fn next(
         &self,
         finished: &[u32; 8],

@@ -20,8 +20,8 @@ pub fn histories_give_up_once<S>()
     ensures { HistoriesGiveUpOnce S }
 {}
 
-/// At a set distance below the least at which the hulls of two tasks overlap, a segment is given up only for the trap that
-/// is the outcome.
+/// Where the set distance is below the least at which the hulls of two tasks overlap, no segment is given up for an
+/// overlap, and for a trap only the segment in which the outcome traps.
 pub fn histories_give_up_for_trap<S>()
     ensures { HistoriesGiveUpForTrap S }
 {}

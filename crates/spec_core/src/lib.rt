@@ -1,9 +1,9 @@
 //! The engine that passes barriers speculatively, for every job and 1 to 8 workers, with any kind of signature; with
 //! distance 0 it is the engine with a barrier behind each invocation.
 //!
-//! In come a job and options, out comes a machine: a scheduler opens whole invocations as epochs, each worker carries out
-//! its own tasks of them, and a checker compares what the tasks noted. It is the abstract machine of `spec_machine` on the
-//! setup of `spec_tasks`: each method makes one of its moves.
+//! In come a job and options, out comes a machine: a scheduler opens whole invocations as epochs, each worker carries
+//! out its own tasks of them, and a checker compares what the tasks noted. It is the abstract machine of `spec_machine`
+//! on the setup of `spec_setup`: each method makes one of its moves.
 #![tactic(auto)]
 
 mod choice;

@@ -27,7 +27,7 @@ pub enum Turn {
     Begin,
     /// A task with no iteration is finished.
     Finish,
-    /// A worker stops since the segment is given up.
+    /// A worker lets go of its task, since the segment is given up.
     LetGo,
     /// A worker stops since a trap is kept.
     Stop,

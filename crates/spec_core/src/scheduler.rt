@@ -120,7 +120,7 @@ impl<G: Signature> Table<G> {
         self.distance = u32::from(plan.far());
     }
 
-    /// Goes back to the marked words, and begins the segment anew with no worker ahead of another.
+    /// Goes back to the marked words, and starts the segment again at distance 0.
     pub(crate) fn restore(&mut self, plan: &Plan)
         requires plan { IsPlan plan.now }
         requires sound { IsSound G.sizes_of plan.now self.old }

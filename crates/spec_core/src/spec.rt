@@ -21,14 +21,15 @@ use std::marker::Model;
 use task_frame::{Piece, Worked};
 use word_store::Words;
 
-/// The engine that passes barriers speculatively. A scheduler opens whole invocations as epochs, workers carry out their
-/// tasks of them, ahead of one another by the distance at most, and a checker compares what unordered tasks noted. A segment
-/// is committed once all its pairs are passed; where a pair overlaps, or a task traps that is ahead, it is run again from
-/// its checkpoint with a barrier behind each epoch. With the engine `Barrier` it is so from the start.
+/// The engine that passes barriers speculatively. A scheduler opens whole invocations as epochs, workers carry out
+/// their tasks of them, ahead of one another by the distance at most, and a checker compares what unordered tasks
+/// noted. A segment is committed once all its pairs are passed; where a pair overlaps, or a task traps while the
+/// distance is above 0, it is run again from its checkpoint with a barrier behind each epoch. With the engine `Barrier`
+/// it is so from the start.
 ///
-/// A step costs a constant, but for an event of the scheduler, which costs the expressions that it evaluates, for a step of
-/// the checker, which costs the pairs that it looks at and two signatures, for the begin of a task, which costs what was
-/// noted in its place before, and for a commit or a restore, which cost the words of the program.
+/// A step costs a constant, but for an event of the scheduler, which costs the expressions that it evaluates, for a
+/// step of the checker, which costs the pairs that it looks at and two signatures, for beginning a task, which costs
+/// what was noted in its place before, and for a commit or a restore, which cost the words of the program.
 #[derive(Drop)]
 pub struct Spec<G: Signature> {
     plan: Plan,

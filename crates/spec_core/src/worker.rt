@@ -59,7 +59,7 @@ impl<G: Signature> Table<G> {
         self.seats[worker as usize].finish();
     }
 
-    /// A worker stops since the segment is given up.
+    /// A worker lets go of its task, since the segment is given up.
     pub(crate) fn let_go(&mut self, plan: &Plan, worker: u8)
         requires plan { IsPlan plan.now }
         requires sound { IsSound G.sizes_of plan.now self.old }
@@ -243,8 +243,8 @@ impl<G: Signature> Table<G> {
         }
     }
 
-    // The iteration of a worker traps. Ahead of others the segment is given up, as it may have read stale words; else the
-    // trap is kept.
+    // The iteration of a worker traps. At a distance above 0 the segment is given up, as the iteration may have read
+    // stale words; at distance 0 the trap is kept.
     fn trap(&mut self, plan: &Plan, worker: u8, cause: Cause, line: Line)
         requires plan { IsPlan plan.now }
         requires sound { IsSound G.sizes_of plan.now self.old }

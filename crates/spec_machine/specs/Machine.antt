@@ -174,7 +174,7 @@ pub data Move (B C P : Type 0) : Type 0 where
   DoFinish : Move B C P  -- the task is finished
   DoFail : Move B C P  -- its iteration traps at a distance above 0
   DoTrap : ℕ → Cause → Line → Move B C P  -- it traps at distance 0
-  DoLetGo : Move B C P  -- a worker stops since the segment is given up
+  DoLetGo : Move B C P  -- a worker lets go of its task, since the segment is given up
   DoStop : Move B C P  -- a worker stops since a trap is kept
   DoCheck : Pair → Move B C P
   DoAbort : Pair → ℕ → Move B C P

@@ -23,7 +23,7 @@ impl Model for Tickets {
 }
 
 impl Tickets {
-    /// No ticket, with room for exactly so many.
+    /// An empty queue with room for exactly `capacity` tickets.
     pub fn with_capacity(alloc: Global, capacity: usize) -> Result<Tickets, NoMemory>
         ensures { IfOk result (λ tickets. tickets ≡ buffer [] capacity) }
     {
@@ -45,7 +45,7 @@ impl Tickets {
         self.ring.len() < self.ring.capacity()
     }
 
-    /// Puts a ticket behind the others. Where there are as many as there may be, it comes back and nothing changes.
+    /// Puts a ticket behind the others. Where the queue is full, the ticket is handed back and nothing changes.
     pub fn put(&mut self, ticket: Ticket) -> Result<(), Ticket>
         ensures room { IsOk result ↔ (length self.old.items < self.old.capacity) }
         ensures put { OnOk result (self.new ≡ buffer (self.old.items ++ ticket ∷ []) self.old.capacity) }
@@ -54,14 +54,14 @@ impl Tickets {
         self.ring.try_push_back(ticket)
     }
 
-    /// The ticket that was put first of those that are there. None comes exactly where there is none.
+    /// The first ticket of the queue, or None where it is empty.
     pub fn front(&self) -> Option<&Ticket>
         ensures { option_copied result ≡ slice_get self.now.items 0 }
     {
         self.ring.front()
     }
 
-    /// Takes that ticket out. None comes exactly where there is none.
+    /// Takes the first ticket out, or answers None where the queue is empty.
     pub fn take(&mut self) -> Option<Ticket>
         ensures first { result ≡ slice_get self.old.items 0 }
         ensures left { self.new ≡ buffer (drop 1 self.old.items) self.old.capacity }

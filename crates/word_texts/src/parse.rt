@@ -41,8 +41,8 @@ fn refusal(error: &Error) -> WordsRefused
     }
 }
 
-/// The texts that the words give to the names of the action and the options, as clap's matches: `get_str` of a name, and
-/// `get_flag` of `record`. `Words` comes exactly where the words part in no such way, or give a name twice.
+/// The texts that the words give to the names of the action and the options, as clap's matches: `get_str` of a name,
+/// and `get_flag` of `record`. `Words` comes only where the words give no such texts, or give a name twice.
 pub fn texts_of<'a>(alloc: Global, words: &'a [String]) -> Result<ArgMatches<'a>, WordsRefused>
     ensures { MatchResult result (λ m. Finds (map string_bytes words.now) m) (λ e. e ≡ Words → (given : List Pair) → Give (map string_bytes words.now) given → ⊥) }
 {

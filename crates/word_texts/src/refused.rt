@@ -3,7 +3,7 @@
 use std::alloc::AllocError;
 use thiserror::Error;
 
-/// The answer of `read_words` to words that say no call, or where memory ran out.
+/// Why words are refused: they give no texts, or say no call, or memory ran out.
 #[derive(Clone, Copy, Debug, PartialEq, Eq, Error)]
 pub enum WordsRefused {
     #[error("words that say nothing")]
