@@ -8,6 +8,7 @@ use Rattle.nest_mean.specs.declared.outcomes.Outcome.TheVariants as outcomes
 use Rattle.progress_board.specs.declared.facts.Facts.{Facts}
 use Rattle.progress_board.specs.declared.options.Engine.{Engine}
 use Rattle.progress_board.specs.declared.options.Engine.TheVariants.{Domore, Speccross, Barrier}
+use Rattle.nest_profile.specs.Least.{OneLeast}
 use Rattle.nest_report.specs.Text.{trap_line}
 use Rattle.nest_runtime.specs.Jobs.{RunsJob, FactsAreDue}
 use Rattle.cross_top.specs.declared.status.Status.TheVariants as status
@@ -19,7 +20,7 @@ use Rattle.cross_words.specs.declared.call.Action.{Action}
 use Rattle.cross_words.specs.declared.call.Action.TheVariants.{Plain, Check, Deps, Alone, Replay, Profile, Gen, Big, Run}
 use Rattle.cross_words.specs.declared.call.Call.{Call}
 use Rattle.cross_top.proofs.Textual.{ended_same}
-use Rattle.cross_top.specs.Answers.{Answer, ended, told, told_steps, done_text, job_of, AnswersRun, AnswersPlain, AnswersAlone, AnswersThreads, AnswersWords, AnswersData, AnswersProgram, AnswersNest, AnswersInput, too_long, a_text, AnswersCall, is_gen, runs_engine, AreOne, OneAnswer, AnswersSteps, ran, not_enabled, AnswersActors, AnswersReplay, AnswersProfile, RefuseSameStep, AgreeApart}
+use Rattle.cross_top.specs.Answers.{Answer, ended, told, told_steps, done_text, job_of, AnswersRun, AnswersPlain, AnswersAlone, AnswersThreads, AnswersWords, AnswersData, AnswersProgram, AnswersNest, AnswersInput, too_long, a_text, AnswersCall, is_gen, runs_engine, AreOne, OneAnswer, AnswersSteps, ran, not_enabled, AnswersActors, AnswersReplay, AnswersProfile, profile_answer, RefuseSameStep, AgreeApart}
 
 -- a run of a call tells its steps
 steps_told : (call : Call) (program : Program) (facts : Facts) (history : List ℕ) (o : Outcome) → (told call program facts history o).history ≡ told_steps call history
@@ -83,7 +84,7 @@ module _ (due : FactsAreDue) (call : Call) (answer other : Answer) (steps : answ
   one_actors job (Ok given) is is' = one_strict job given is is'
   one_actors job (Err n) is is' = inl (is ∙ sym is')
 
-module _ (due : FactsAreDue) (one_nest : (input : List ℕ) (said other : Result Program Refusal) → SaysNest input said → SaysNest input other → said ≡ other)
+module _ (due : FactsAreDue) (one_least : OneLeast) (one_nest : (input : List ℕ) (said other : Result Program Refusal) → SaysNest input said → SaysNest input other → said ≡ other)
     (one_words : (input : List ℕ) (program : Program) (said other : Result Memory Refusal) → SaysWords input program said → SaysWords input program other → said ≡ other)
     (one_steps : (input : List ℕ) (workers : ℕ) (said other : Result (List ℕ) ℕ) → SaysSteps input workers said → SaysSteps input workers other → said ≡ other) where
   of_said : (action : Action) (call : Call) (Acts : List ℤ → Answer → Type 0) (answer other : Answer) → ((words : List ℤ) → Acts words answer → Acts words other → AreOne action call answer other) → (input : List ℕ) (program : Program)
@@ -108,7 +109,7 @@ module _ (due : FactsAreDue) (one_nest : (input : List ℕ) (said other : Result
   of_program Big call input program answer other steps same is is' = of_data Big call (AnswersAlone call program) (one_alone due Big refl call program) input program answer other steps is is'
   of_program Gen call input program answer other steps same is is' = absurd is
   of_program Replay call input program answer other steps same is is' = of_said Replay call (AnswersReplay call input program) answer other (one_replay call input program answer other steps same) input program is is'
-  of_program Profile call input program answer other steps same is is' = of_said Profile call (AnswersProfile call program) answer other (λ words first second. inl (same first.least second.least first.is second.is)) input program is is'
+  of_program Profile call input program answer other steps same is is' = of_said Profile call (AnswersProfile call program) answer other (λ words first second. inl (first.is ∙ ap profile_answer (one_least (job_of program words) call.options first.least second.least first.is_least second.is_least) ∙ sym second.is)) input program is is'
   of_program Run call input program answer other steps same is is' = of_data Run call (AnswersThreads call program) (one_threads due call program) input program answer other steps is is'
 
   of_nest : (call : Call) (input : List ℕ) (said : Result Program Refusal) (answer other : Answer) → answer.history ≡ other.history → AgreeApart call.action answer other → AnswersNest call input said answer → AnswersNest call input said other → AreOne call.action call answer other

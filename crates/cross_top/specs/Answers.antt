@@ -214,14 +214,9 @@ pub record DifferInFacts (call : Call) (answer other : Answer) : Type 0 where
   pub is : answer ≡ told call program facts history (outcomes.Done memory)
   pub other_is : other ≡ told call program others history (outcomes.Done memory)
 
--- two answers of `profile` tell the same distance
-abbrev pub TellSameDistance : Answer → Answer → Type 0
-TellSameDistance answer other = (least others : Option ℕ) → answer ≡ profile_answer least → other ≡ profile_answer others → answer ≡ other
-
--- what the input and the steps don't settle of two answers
+-- what input and steps leave open of two answers
 abbrev pub AgreeApart : Action → Answer → Answer → Type 0
 AgreeApart Replay answer other = RefuseSameStep answer other
-AgreeApart Profile answer other = TellSameDistance answer other
 AgreeApart _ answer other = Unit {0}
 
 -- the actions that run an engine
@@ -236,7 +231,7 @@ runs_engine _ = false
 abbrev pub AreOne : Action → Call → Answer → Answer → Type 0
 AreOne action call answer other = (answer ≡ other) ⊎ ((runs_engine action ≡ true) × IsSpeculative call.options.engine × DifferInFacts call answer other)
 
--- With the same steps, an input has one answer. Which step `replay` refuses isn't settled by this, nor which distance
--- `profile` tells: two answers have to agree about these. Nor is what a speculative engine counts.
+-- With the same steps, an input has one answer. Which step `replay` refuses isn't settled by this: two answers have to agree
+-- about it. Nor is what a speculative engine counts.
 abbrev pub OneAnswer : Type 0
 OneAnswer = (call : Call) (input : List ℕ) (answer other : Answer) → answer.history ≡ other.history → AgreeApart call.action answer other → Answers call input answer → Answers call input other → AreOne call.action call answer other

@@ -2,8 +2,7 @@
 //!
 //! In come words, a source and a sink, out come the bytes that are due and a status. `cross_quiet` is the top call, and
 //! `Ends` of specs/Ends says what it does. `one_answer` says when two answers to one call and input are the same, but
-//! for what a speculative engine counts: where they have the same steps, refuse the same step of `replay` or none, and
-//! tell the same distance of `profile`.
+//! for what a speculative engine counts: where they have the same steps, and refuse the same step of `replay` or none.
 #![tactic(auto)]
 
 mod alone;

@@ -1,7 +1,9 @@
+mod Alike
 mod Blaming
 mod Claimed
 mod Courses
 mod Crossing
+mod Cursors
 mod Cutting
 mod Found
 mod Iterating

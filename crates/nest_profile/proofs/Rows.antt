@@ -13,7 +13,7 @@ use Rattle.nest_profile.specs.declared.row.Row.{Row}
 use Rattle.nest_profile.specs.Hulls.{IsEven, IsTable, sign_in, hull_in, HoldHulls}
 
 -- no share of nothing
-share_zero : (all : Bool) (width e w : ℕ) → share all width e 0 w ≡ 0
+pub share_zero : (all : Bool) (width e w : ℕ) → share all width e 0 w ≡ 0
 share_zero true width e w = let z : 0 * w ≡ 0 = omega arith in ap (λ n. n / width) z ∙ zero-div width
 share_zero false width e w = by (nat_le w (e % width))
   where

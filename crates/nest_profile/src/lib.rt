@@ -6,6 +6,7 @@
 #![tactic(auto)]
 
 mod course;
+mod laws;
 mod least;
 mod nearest;
 mod noting;
@@ -13,4 +14,5 @@ mod plan;
 mod row;
 mod walk;
 
+pub use laws::{below_least_are_traps, one_least};
 pub use least::least_distance;

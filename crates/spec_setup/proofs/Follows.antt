@@ -197,22 +197,23 @@ module _ (program : Program) (words : List ℤ) where
   pub good_behind : (c : Cursor) (i : Invocation) → IsCursorOf program c → c.at ≡ at.Inside i → Good (behind_invocation c (at.Inside i))
   good_behind c i own there = record { own = subst (λ a. IsCursorOf program (behind_invocation c a)) there (cursors_stay.behind_invocations program c own); fresh = tt }
 
-  -- where an event of an invocation is at hand, the whole of it begins
+  -- where an event of an invocation is at hand, the whole of it comes
+  pub whole_comes : (left : Course) (c : Cursor) → Good c → (entered : Entered c) → FollowsCourse program words c left
+      → BeginsWith program (handed_in c entered.invocation) (FollowsCourse program words (behind_invocation c (at.Inside entered.invocation))) entered.invocation.turning.trips 0 left
+  whole_comes left c good entered f =
+      let i = entered.invocation in
+      let fresh : i.turning.turn ≡ 0 = subst Fresh entered.there good.fresh in
+      let whole : BeginsWith program (handed_in c i) (FollowsCourse program words (behind_invocation c c.at)) (i.turning.trips - i.turning.turn) i.turning.turn left = whole_invocations_follow program words c i left good.own entered.there f in
+      let all : i.turning.trips - i.turning.turn ≡ i.turning.trips = omega (arith, fresh) in
+      subst (λ n. BeginsWith program (handed_in c i) (FollowsCourse program words (behind_invocation c (at.Inside i))) n 0 left) all
+      (subst (λ k. BeginsWith program (handed_in c i) (FollowsCourse program words (behind_invocation c (at.Inside i))) (i.turning.trips - i.turning.turn) k left) fresh
+      (subst (λ a. BeginsWith program (handed_in c i) (FollowsCourse program words (behind_invocation c a)) (i.turning.trips - i.turning.turn) i.turning.turn left) entered.there whole))
+
   begins : (left : Course) → FollowsInside left → (c : Cursor) → Good c → Entered c → FollowsCourse program words c left
       → (i : Invocation) × (c.at ≡ at.Inside i) × One (Inside (invoked_at c i) 0 i.turning.trips (behind_invocation c (at.Inside i))) left
   begins left follows c good entered f =
       let i = entered.invocation in
-      let there = entered.there in
-      let fresh : i.turning.turn ≡ 0 = subst Fresh there good.fresh in
-      let behind : Cursor = behind_invocation c (at.Inside i) in
-      let whole : BeginsWith program (handed_in c i) (FollowsCourse program words (behind_invocation c c.at)) (i.turning.trips - i.turning.turn) i.turning.turn left = whole_invocations_follow program words c i left good.own there f in
-      let all : i.turning.trips - i.turning.turn ≡ i.turning.trips = omega (arith, fresh) in
-      let from_start : BeginsWith program (handed_in c i) (FollowsCourse program words (behind_invocation c (at.Inside i))) i.turning.trips 0 left =
-      subst (λ n. BeginsWith program (handed_in c i) (FollowsCourse program words (behind_invocation c (at.Inside i))) n 0 left) all
-      (subst (λ k. BeginsWith program (handed_in c i) (FollowsCourse program words (behind_invocation c (at.Inside i))) (i.turning.trips - i.turning.turn) k left) fresh
-      (subst (λ a. BeginsWith program (handed_in c i) (FollowsCourse program words (behind_invocation c a)) (i.turning.trips - i.turning.turn) i.turning.turn left) there whole)) in
-      let start : 0 + i.turning.trips ≡ i.turning.trips = omega arith in
-      (i, there, follows c i i.turning.trips 0 good.own there start from_start)
+      (i, entered.there, follows c i i.turning.trips 0 good.own entered.there (omega arith) (whole_comes left c good entered f))
 
   -- the single event at a cursor that stands in an invocation
   first_same : (c : Cursor) (i : Invocation) → c.at ≡ at.Inside i → (e : courses.Event Iteration Cursor) → invoking c c.at ≡ by_invocations c e → event_at arrays words c ≡ e

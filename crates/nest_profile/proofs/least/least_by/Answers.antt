@@ -33,4 +33,4 @@ returns g c =
     let e = c.events-test.ensures.ends refl start i.2 in
     let has = c.cut.ensures.looked job options start e.looked e.gathered e.reaches e.has_looked in
     subst (λ (o : Options). IsLeastBy s job o c.least.result) c.in_ok-plan.ensures.options
-    (subst (λ (b : Option ℕ). IsLeastBy s job options b) (sym c.least.ensures) (i.0, i.1, least_blamed s job options i.0 _ c.cut.new.self.best e.whole has.least))
+    (subst (λ (b : Option ℕ). IsLeastBy s job options b) (sym c.least.ensures) (least_blamed s job options i.0 i.1 _ c.cut.new.self.best e.whole has.least))
