@@ -12,11 +12,10 @@ ghost use Rattle.nest_setup.specs.Ahead.{IsInside};
 ghost use Rattle.domore_core.specs.Tables.{state_of, setup_by, sizes_by, IsSame};
 
 use crate::memory::{set_word, word_at};
-use crate::pieces::piece_at;
 use crate::plan::Plan;
 use crate::table::Table;
 use nest_syntax::{Cause, Line, Place};
-use task_frame::{Frame, Stop, Worked};
+use task_frame::{Frame, Stop, Worked, piece_at};
 use task_hop::Register;
 
 impl Table {
