@@ -8,6 +8,7 @@ use Rattle.task_code.specs.Code.{Code}
 use Rattle.task_hop.specs.declared.frame.Frame.{Frame}
 use Rattle.task_frame.specs.declared.piece.Piece.{Piece}
 use Rattle.task_frame.specs.Pieces.{reached}
+use Rattle.task_frame.specs.Stops.{IsInside}
 use Rattle.task_hop.specs.declared.stop.Stop.{Stop as Stopped}
 use Rattle.task_hop.specs.declared.stop.Stop.TheVariants as stopped
 use Rattle.settle_law.specs.Tasks.{Stop, Loads, Stores, Goes, Finishes, Traps}
@@ -27,7 +28,7 @@ use Rattle.domore_core.specs.declared.moves.Move.TheVariants.{Turn, Hop}
 use Rattle.domore_core.specs.declared.moves.Turn.{Turn as OwnMove}
 use Rattle.domore_core.specs.Moves.{told, row_of_turn, row_of_stop}
 use Rattle.domore_core.specs.Stages.{number_in, number_at}
-use Rattle.nest_setup.specs.Ahead.{IsInside, HandGoesOn}
+use Rattle.nest_setup.specs.Ahead.{HandGoesOn}
 use Rattle.domore_core.specs.Ahead.{GoesOn}
 use Rattle.domore_core.specs.Engine.{Engine, Stand, Move, setup_in, move_of, made_by, made_of, number_of, row_of, has_ended, hand_at, answer, asked, work_of_move}
 use Rattle.domore_core.specs.Laws.{hop_of, row_told}

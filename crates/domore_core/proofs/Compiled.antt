@@ -1,28 +1,13 @@
 -- The stops of a compiled code are inside the arrays.
-use Rattle.std.proofs.Common.{◌≡◌, ℕ, ◌<◌, List, length, slice_index_or, Result, Ok, Err, IfOk, subst}
+use Rattle.std.proofs.Common.{◌≡◌, Result, Ok, Err, IfOk, subst}
 use Rattle.nest_syntax.specs.declared.names.NoMemory.{NoMemory}
 use Rattle.nest_syntax.specs.declared.tree.Program.{Program}
 use Rattle.nest_syntax.specs.Arrays.{arrays_of, sizes_of}
-use Rattle.task_hop.specs.declared.stop.Stop.{Stop}
-use Rattle.task_hop.specs.declared.stop.Stop.TheVariants as stop
 use Rattle.task_code.specs.Code.{Code}
 use Rattle.task_code.specs.CodeOf.{IsCodeOf}
-use Rattle.task_frame.specs.Pieces.{piece_at, reached}
-use Rattle.task_frame.specs.Stops as framed
+use Rattle.task_frame.specs.Stops.{StopsInside}
 use Rattle.task_frame.proofs.Stops.{stops_inside}
-use Rattle.nest_setup.specs.Ahead.{IsInside, StopsInside}
-
--- a stop that names an array, and a place inside it, is at a place of an array
-at_place : (sizes : List ℕ) (s : Stop) → framed.IsInside sizes s → IsInside sizes s
-at_place sizes (stop.Load array place into next) inside = inside.1
-at_place sizes (stop.Store array place value next) inside = inside.1
-at_place sizes (stop.Go next) inside = tt
-at_place sizes stop.Finish inside = tt
-at_place sizes (stop.Trap cause line) inside = tt
-
-code_inside : (program : Program) (code : Code) → IsCodeOf program code → StopsInside (sizes_of (arrays_of program.decls)) code
-code_inside program code is = λ at frame. at_place (sizes_of (arrays_of program.decls)) (reached (piece_at code at frame)).stop (stops_inside program code is at frame)
 
 pub compiled_inside : (r : Result Code NoMemory) (checked program : Program) → checked ≡ program → IfOk r (λ code. IsCodeOf checked code) → IfOk r (λ code. StopsInside (sizes_of (arrays_of program.decls)) code)
 compiled_inside (Err e) checked program same is = tt
-compiled_inside (Ok code) checked program same is = code_inside program code (subst (λ (p : Program). IsCodeOf p code) same is)
+compiled_inside (Ok code) checked program same is = stops_inside program code (subst (λ (p : Program). IsCodeOf p code) same is)

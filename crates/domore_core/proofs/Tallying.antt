@@ -1,68 +1,16 @@
 -- The lists of a tally.
-use Rattle.std.proofs.Common.{◌≡◌, ℕ, zero, suc, ◌+◌, ◌-◌, ◌≤◌, ◌<◌, if◌then◌else◌, nat_lt, min, Option, Some, None, List, [], ◌∷◌, ◌++◌, length, map, take, replicate, set, refl, sym, ap, ◌∙◌, subst, arith, ⊎_elim, length-append, append_assoc, append-nil}
+use Rattle.std.proofs.Common.{◌≡◌, ℕ, zero, suc, ◌+◌, ◌≤◌, if◌then◌else◌, nat_lt, Option, Some, List, [], ◌∷◌, ◌++◌, length, map, take, set, refl, sym, ap, ◌∙◌, subst, arith, append_assoc, append-nil}
 use Rattle.std.specs.List.{count_by}
 use Rattle.std.proofs.lemmas.List.Sums.{sum_by-cons}
 use Rattle.progress_board.specs.declared.options.Options.{Options}
-use Rattle.std.proofs.lemmas.Bool.{cases_lt}
-use Rattle.std.proofs.lemmas.List.{length-replicate, length-map, length-take, take_all, take_at}
+use Rattle.std.proofs.lemmas.List.{take_all}
 use Rattle.progress_board.specs.declared.facts.Facts.{Facts as Report}
 use Rattle.progress_board.specs.declared.facts.Wait.{Wait as Place}
+use Rattle.progress_board.proofs.Places.{counted_more, placed_more, listed_places}
 use Rattle.domore_machine.specs.Waits.{Wait}
 use Rattle.domore_machine.specs.Facts.{Facts, WaitLine, wait_line, iterated}
 use Rattle.domore_core.specs.Reports.{wait_of, places_of, report_of}
 use Rattle.domore_core.specs.Tallies.{Tallied, listed_in, tallied, IsTallied, with_wait, with_waits}
-
-abbrev placed : WaitLine → Option Place
-placed l = Some (wait_of l)
-
-listed-nothing : (k : ℕ) → listed_in (replicate k None) ≡ []
-listed-nothing zero = refl
-listed-nothing (suc k) = listed-nothing k
-
-listed-padded : (xs : List WaitLine) (k : ℕ) → listed_in (map placed xs ++ replicate k None) ≡ xs
-listed-padded [] k = listed-nothing k
-listed-padded (x ∷ xs) k = ap (λ ys. x ∷ ys) (listed-padded xs k)
-
-listed-places : (xs : List WaitLine) → listed_in (places_of xs) ≡ xs
-listed-places xs = listed-padded xs (64 - length xs)
-
-set-padded : (xs : List WaitLine) (k : ℕ) (y : Option Place) → set (map placed xs ++ replicate (suc k) None) (length xs) y ≡ map placed xs ++ y ∷ replicate k None
-set-padded [] k y = refl
-set-padded (x ∷ xs) k y = ap (λ ys. placed x ∷ ys) (set-padded xs k y)
-
-map-push : (xs : List WaitLine) (x : WaitLine) (k : ℕ) → map placed xs ++ placed x ∷ replicate k None ≡ map placed (xs ++ x ∷ []) ++ replicate k None
-map-push [] x k = refl
-map-push (y ∷ xs) x k = ap (λ ys. placed y ∷ ys) (map-push xs x k)
-
-set-past : {A : Type 0} (xs : List A) (i : ℕ) (v : A) → length xs ≤ i → set xs i v ≡ xs
-set-past [] i v past = refl
-set-past (x ∷ xs) zero v past = absurd (omega arith)
-set-past (x ∷ xs) (suc i) v past = ap (λ ys. x ∷ ys) (set-past xs i v (omega arith))
-
-length-places : (xs : List WaitLine) → length xs ≤ 64 → length (places_of xs) ≡ 64
-length-places xs few = length-append (map placed xs) (replicate (64 - length xs) None) ∙ (let n : length (map placed xs) ≡ length xs = length-map xs placed in let k : length (replicate {A = Option Place} (64 - length xs) None) ≡ 64 - length xs = length-replicate (64 - length xs) None in let all : length (map placed xs) + length (replicate {A = Option Place} (64 - length xs) None) ≡ 64 = omega arith in all)
-
-pub listed_more : (xs : List WaitLine) (waits : ℕ) (x : WaitLine) → length xs ≡ min waits 64 → set (places_of xs) waits (placed x) ≡ places_of (take 64 (xs ++ x ∷ []))
-listed_more xs waits x count = ⊎_elim room full (cases_lt waits 64)
-  where
-    room : waits < 64 → set (places_of xs) waits (placed x) ≡ places_of (take 64 (xs ++ x ∷ []))
-    room less =
-        let here : waits ≡ length xs = omega arith in
-        let left : 64 - length xs ≡ suc (63 - length xs) = omega arith in
-        let longer : length (xs ++ x ∷ []) ≡ suc (length xs) = length-append xs (x ∷ []) ∙ (let e : length xs + 1 ≡ suc (length xs) = omega arith in e) in
-        let same : 63 - length xs ≡ 64 - length (xs ++ x ∷ []) = omega arith in
-        ap (λ i. set (places_of xs) i (placed x)) here
-        ∙ ap (λ k. set (map placed xs ++ replicate k None) (length xs) (placed x)) left
-        ∙ set-padded xs (63 - length xs) (placed x)
-        ∙ map-push xs x (63 - length xs)
-        ∙ ap (λ k. map placed (xs ++ x ∷ []) ++ replicate k None) same
-        ∙ ap places_of (sym (take_all 64 (xs ++ x ∷ []) (omega arith)))
-
-    full : 64 ≤ waits → set (places_of xs) waits (placed x) ≡ places_of (take 64 (xs ++ x ∷ []))
-    full past =
-        let all : length xs ≡ 64 = omega arith in
-        set-past (places_of xs) waits (placed x) (omega (arith, length-places xs (omega arith)))
-        ∙ ap places_of (sym (take_at xs (x ∷ []) 64 all))
 
 module _ (report : Report) (first number : ℕ) (w : Wait) (kept : IsTallied report (tallied report first)) where
   abbrev xs : List WaitLine
@@ -72,19 +20,19 @@ module _ (report : Report) (first number : ℕ) (w : Wait) (kept : IsTallied rep
   one = wait_line number first w
 
   abbrev pub after : Report
-  after = record report { waits = report.waits + 1; crossing = report.crossing + (if nat_lt w.number first then 1 else 0); first_waits = set report.first_waits report.waits (placed one) }
+  after = record report { waits = report.waits + 1; crossing = report.crossing + (if nat_lt w.number first then 1 else 0); first_waits = set report.first_waits report.waits (Some (wait_of one)) }
 
   places-after : after.first_waits ≡ places_of (take 64 (xs ++ one ∷ []))
-  places-after = ap (λ (ps : List (Option Place)). set ps report.waits (placed one)) (ap (λ (r : Report). r.first_waits) kept.is) ∙ listed_more xs report.waits one kept.count
+  places-after = ap (λ (ps : List (Option Place)). set ps report.waits (Some (wait_of one))) (ap (λ (r : Report). r.first_waits) kept.is) ∙ placed_more wait_of xs report.waits one kept.count
 
   listed-after : listed_in after.first_waits ≡ take 64 (xs ++ one ∷ [])
-  listed-after = ap listed_in places-after ∙ listed-places (take 64 (xs ++ one ∷ []))
+  listed-after = ap listed_in places-after ∙ listed_places wait_of listed_in refl (λ ps. refl) (λ l ps. refl) (take 64 (xs ++ one ∷ []))
 
   pub note_kept : IsTallied after (tallied after first)
   note_kept = record {
     is = ap (λ (r : Report). let s : Report = record r { waits = report.waits + 1; crossing = report.crossing + (if nat_lt w.number first then 1 else 0); first_waits = after.first_waits } in s) kept.is
         ∙ ap (λ (ps : List (Option Place)). let s : Report = record (report_of report.options (tallied report first).facts) { waits = report.waits + 1; crossing = report.crossing + (if nat_lt w.number first then 1 else 0); first_waits = ps } in s) (places-after ∙ ap places_of (sym listed-after));
-    count = ap length listed-after ∙ length-take 64 (xs ++ one ∷ []) ∙ (let longer : length (xs ++ one ∷ []) ≡ length xs + 1 = length-append xs (one ∷ []) in let n : length xs ≡ min report.waits 64 = kept.count in let e : min 64 (length (xs ++ one ∷ [])) ≡ min (report.waits + 1) 64 = omega arith in e);
+    count = ap length listed-after ∙ counted_more xs report.waits one kept.count;
   }
 
   pub note_is : tallied after first ≡ record (tallied report first) { facts = with_wait number (tallied report first).facts w }

@@ -13,6 +13,7 @@ use Rattle.turn_cost.specs.Costs.{body_cost}
 use Rattle.task_code.specs.Code.{Code}
 use Rattle.task_code.specs.CodeOf.{IsCodeOf}
 use Rattle.task_frame.specs.declared.piece.Piece.{Piece}
+use Rattle.task_frame.specs.Stops.{StopsInside}
 use Rattle.sched_cursor.specs.declared.event.Iteration.{Iteration}
 use Rattle.sched_cursor.specs.Cursor.{Cursor}
 use Rattle.sched_cursor.specs.Laws.{IsCursorOf, restarted}
@@ -37,7 +38,6 @@ use Rattle.domore_machine.specs.Measure.{bound}
 use Rattle.nest_tasks.specs.Longest.{longest}
 use Rattle.nest_setup.specs.Setups.{setup_of}
 use Rattle.nest_setup.specs.Laws.{cost_by}
-use Rattle.nest_setup.specs.Ahead.{StopsInside}
 use Rattle.domore_core.specs.declared.moves.Move.{Move as Told}
 use Rattle.domore_core.specs.declared.moves.Move.TheVariants.{Turn, Hop}
 use Rattle.domore_core.specs.Moves.{told, row_of_turn}

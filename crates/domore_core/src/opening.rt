@@ -4,10 +4,10 @@ ghost use Rattle.nest_syntax.specs.Arrays.{arrays_of, sizes_of};
 ghost use Rattle.nest_mean.specs.Nest.{CanRun};
 ghost use Rattle.progress_board.specs.Options.{IsInRange};
 ghost use Rattle.task_code.specs.CodeOf.{IsCodeOf};
+ghost use Rattle.task_frame.specs.Stops.{StopsInside};
 ghost use Rattle.sched_cursor.specs.Laws.{IsCursorOf, restarted};
 ghost use Rattle.domore_machine.specs.Machine as machine;
 ghost use Rattle.domore_machine.specs.Facts.{no_facts};
-ghost use Rattle.nest_setup.specs.Ahead.{StopsInside};
 ghost use Rattle.domore_core.specs.Tables.{state_of, setup_by, sizes_by, IsPlan, IsSound, IsDeskBy};
 
 use crate::desk::Desk;

@@ -9,7 +9,7 @@ ghost use Rattle.domore_core.specs.Tickets.{ticket_of};
 ghost use Rattle.domore_core.specs.Stages.{stage_of, number_at};
 
 use crate::hand::Held;
-use crate::pieces::{copy_piece, first_piece};
+use crate::pieces::first_piece;
 use crate::stage::Stage;
 use crate::wait::listed_waits;
 use nest_syntax::NoMemory;
@@ -121,7 +121,7 @@ impl Seat {
         ensures held { (k : ℕ) (left : List On) (p : Stood) → self.now.hand ≡ machine.Holding k left p → result ≡ Some p }
     {
         match &self.hand {
-            Held::Task { piece, .. } => Some(copy_piece(piece)),
+            Held::Task { piece, .. } => Some(piece.copy()),
             Held::Nothing | Held::Ended => None,
         }
     }

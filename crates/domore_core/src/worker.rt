@@ -4,19 +4,18 @@ ghost use Rattle.nest_syntax.specs.declared.names.Line.{Line as At};
 ghost use Rattle.nest_syntax.specs.declared.operators.Cause.{Cause as Why};
 ghost use Rattle.task_frame.specs.declared.piece.Piece.{Piece as Stood};
 ghost use Rattle.task_frame.specs.Pieces.{reached, piece_at};
+ghost use Rattle.task_frame.specs.Stops.{IsInside};
 ghost use Rattle.sched_cursor.specs.declared.event.Iteration.{Iteration};
 ghost use Rattle.domore_machine.specs.Machine as machine;
 ghost use Rattle.domore_machine.specs.Waits.{Wait as On};
 ghost use Rattle.nest_setup.specs.Pieces.{stop_of};
-ghost use Rattle.nest_setup.specs.Ahead.{IsInside};
 ghost use Rattle.domore_core.specs.Tables.{state_of, setup_by, sizes_by, IsSame};
 
 use crate::memory::{set_word, word_at};
-use crate::pieces::piece_at;
 use crate::plan::Plan;
 use crate::table::Table;
 use nest_syntax::{Cause, Line, Place};
-use task_frame::{Frame, Stop, Worked};
+use task_frame::{Frame, Stop, Worked, piece_at};
 use task_hop::Register;
 
 impl Table {

@@ -17,6 +17,7 @@ use Rattle.task_code.specs.Code.{Code, entry_at, slot_at}
 use Rattle.task_code.specs.Unfolded.{opening_frame}
 use Rattle.task_frame.specs.declared.piece.Piece.{Piece}
 use Rattle.task_frame.specs.Pieces.{piece_at, reached}
+use Rattle.task_frame.specs.Stops.{IsInside, StopsInside}
 use Rattle.sched_cursor.specs.declared.event.Iteration.{Iteration}
 use Rattle.sched_cursor.specs.Cursor.{Cursor}
 use Rattle.sched_cursor.specs.Handed.{what_of}
@@ -30,7 +31,7 @@ use Rattle.domore_machine.proofs.Guards.{Guard}
 use Rattle.domore_machine.proofs.Seats.{each_map, seat_same, seat_other}
 use Rattle.nest_setup.specs.Pieces.{stop_told, stop_of, in_places}
 use Rattle.nest_setup.specs.Setups.{setup_of}
-use Rattle.nest_setup.specs.Ahead.{IsInside, StopsInside, HandGoesOn, SeatGoesOn, SeatsGoOn}
+use Rattle.nest_setup.specs.Ahead.{HandGoesOn, SeatGoesOn, SeatsGoOn}
 use Rattle.nest_setup.proofs.Right.{entries_of_bodies}
 use Rattle.nest_setup.proofs.Costs.{setups_keep, body_costs_bound}
 use Rattle.nest_setup.proofs.Along.{along}

@@ -7,3 +7,4 @@ pub mod Along
 pub mod Courses
 pub mod Held
 pub mod Walked
+pub mod Headers

@@ -67,7 +67,7 @@ entries_of_bodies = record {
 }
 
 -- the statements of a body by its number
-stmts_at_number : (bodies : List Body) (number : ℕ) (body : Body) → slice_get bodies number ≡ Some body → body_at (statements_of_each bodies) number ≡ body.stmts
+pub stmts_at_number : (bodies : List Body) (number : ℕ) (body : Body) → slice_get bodies number ≡ Some body → body_at (statements_of_each bodies) number ≡ body.stmts
 stmts_at_number [] number body there = absurd (let none : None ≡ Some body = there in cc)
 stmts_at_number (b ∷ bodies) zero body there = ap (λ (x : Body). x.stmts) (let same : b ≡ body = cc in same)
 stmts_at_number (b ∷ bodies) (suc number) body there = stmts_at_number bodies number body there

@@ -1,15 +1,13 @@
 -- What can be gone on with, in each state that a legal history leaves.
-use Rattle.std.specs.Prelude.{ℕ, ◌<◌, ◌^◌, ℤ, List, length, slice_index_or}
+use Rattle.std.specs.Prelude.{ℕ, ◌<◌, ◌^◌, ℤ, List, length}
 use Rattle.nest_syntax.specs.declared.tree.Program.{Program}
 use Rattle.nest_syntax.specs.Arrays.{arrays_of, sizes_of}
 use Rattle.addr_slice.specs.Claims.{Claimed}
 use Rattle.settle_law.specs.Courses.{nest_of}
-use Rattle.task_hop.specs.declared.frame.Frame.{Frame}
-use Rattle.task_hop.specs.declared.stop.Stop.{Stop}
-use Rattle.task_hop.specs.declared.stop.Stop.TheVariants as stop
 use Rattle.task_code.specs.Code.{Code}
 use Rattle.task_frame.specs.declared.piece.Piece.{Piece}
-use Rattle.task_frame.specs.Pieces.{piece_at, reached}
+use Rattle.task_frame.specs.Pieces.{reached}
+use Rattle.task_frame.specs.Stops.{IsInside, StopsInside}
 use Rattle.sched_cursor.specs.declared.event.Iteration.{Iteration}
 use Rattle.sched_cursor.specs.Cursor.{Cursor}
 use Rattle.sched_cursor.specs.Laws.{restarted}
@@ -17,16 +15,6 @@ use Rattle.domore_machine.specs.Machine.{State, Seat, Hand, Idle, Holding, Ended
 use Rattle.domore_machine.specs.Invariant.{Each}
 use Rattle.domore_machine.specs.Theorems.{Leads}
 use Rattle.nest_setup.specs.Setups.{setup_of, IsPrepared}
-
--- a stop at an access is at a place of an array
-abbrev pub IsInside : List ℕ → Stop → Type 0
-IsInside sizes (stop.Load array place into next) = place < slice_index_or sizes array 0
-IsInside sizes (stop.Store array place value next) = place < slice_index_or sizes array 0
-IsInside sizes _ = Unit {0}
-
--- so is each stop of a code
-abbrev pub StopsInside : List ℕ → Code → Type 0
-StopsInside sizes code = (at : ℕ) (frame : Frame) → IsInside sizes (reached (piece_at code at frame)).stop
 
 -- what is held goes on inside the arrays, and what is queued is of a body that the code has
 abbrev pub HandGoesOn : List ℕ → Hand Piece → Type 0

@@ -3,3 +3,4 @@ pub mod Rotation
 pub mod Measures
 pub mod Legal
 pub mod Turns
+pub mod Places

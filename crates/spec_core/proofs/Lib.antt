@@ -20,7 +20,6 @@ pub mod Blocks
 pub mod Choosing
 pub mod Due
 pub mod Going
-pub mod Compiled
 pub mod Asking
 pub mod Working
 pub mod Opened

@@ -7,6 +7,7 @@ use Rattle.task_hop.specs.declared.frame.Frame.{Frame}
 use Rattle.task_hop.specs.declared.stop.Stop.{Stop}
 use Rattle.task_frame.specs.declared.piece.Piece.{Piece}
 use Rattle.task_frame.specs.Pieces.{reached}
+use Rattle.task_frame.specs.Stops.{IsInside}
 use Rattle.epoch_plan.specs.declared.blocks.Epoch.{Epoch as Planned}
 use Rattle.nest_setup.specs.Pieces.{opening_piece, stop_told, stop_of}
 use Rattle.sched_cursor.specs.Cursor.{Cursor}
@@ -19,7 +20,6 @@ use Rattle.spec_core.specs.declared.table.Table.{Table}
 use Rattle.spec_core.specs.Hands.{Bench, bench_at, seen_at}
 use Rattle.spec_core.specs.Blocks.{planned_at, invocation_in, epochs_in, begins, block_in}
 use Rattle.spec_core.specs.Reports.{abort_in}
-use Rattle.spec_core.specs.Engine.{IsInside}
 use Rattle.spec_core.specs.Tables.{state_of, setup_by, sizes_by, IsPlan, IsEpochBy, IsSound, HandGoesOn, GoesOn}
 use Rattle.spec_core.proofs.Seating.{seats_there}
 use Rattle.spec_core.proofs.Blocks.{many_epochs, epoch_there, each_at, from_is}

@@ -12,6 +12,7 @@ use Rattle.task_hop.specs.declared.stop.Stop.TheVariants as stop
 use Rattle.task_code.specs.Code.{Code}
 use Rattle.task_code.specs.CodeOf.{IsCodeOf}
 use Rattle.task_frame.specs.declared.piece.Piece.{Piece}
+use Rattle.task_frame.specs.Stops.{StopsInside}
 use Rattle.sched_cursor.specs.Cursor.{Cursor}
 use Rattle.sched_cursor.specs.Laws.{IsCursorOf, restarted}
 use Rattle.progress_board.specs.declared.options.Options.{Options}
@@ -28,7 +29,6 @@ use Rattle.progress_board.specs.declared.facts.Ending.{Ending}
 use Rattle.progress_board.specs.declared.facts.Ending.TheVariants.{Unfinished, Done, Trapped}
 use Rattle.progress_board.specs.declared.facts.Facts.{Facts as Report}
 use Rattle.progress_board.specs.Runs.{IsLegal}
-pub use Rattle.nest_setup.specs.Ahead.{IsInside, StopsInside}
 use Rattle.spec_setup.specs.Signs.{Signs}
 use Rattle.spec_machine.specs.Facts.{Pair}
 use Rattle.spec_machine.specs.Machine.{Setup, State, Hand, Idle, Empty, Running, Stopped, DoCheck, DoAbort, seat_at, done_at}

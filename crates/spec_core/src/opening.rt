@@ -4,11 +4,11 @@ ghost use Rattle.nest_syntax.specs.Arrays.{Array, arrays_of};
 ghost use Rattle.nest_mean.specs.Nest.{CanRun};
 ghost use Rattle.progress_board.specs.Options.{IsInRange};
 ghost use Rattle.task_code.specs.CodeOf.{IsCodeOf};
+ghost use Rattle.task_frame.specs.Stops.{StopsInside};
 ghost use Rattle.sched_cursor.specs.Laws.{restarted};
 ghost use Rattle.spec_machine.specs.Facts.{no_facts};
 ghost use Rattle.spec_machine.specs.Machine as machine;
 ghost use Rattle.spec_core.specs.Signatures.{signs};
-ghost use Rattle.spec_core.specs.Engine.{StopsInside};
 ghost use Rattle.spec_core.specs.Tables.{state_of, setup_by, sizes_by, IsPlan, IsSound, IsDeskBy};
 
 use crate::desk::Desk;

@@ -1,15 +1,12 @@
 ghost use Rattle.std.specs.Prelude.{◌≡◌, ◌<◌, ◌-◌, ◌≤◌, ◌+◌, length};
-ghost use Rattle.task_frame.specs.Pieces.{piece_at};
 ghost use Rattle.nest_setup.specs.Pieces.{opening_piece};
 ghost use Rattle.sched_cursor.specs.Turning.{Reaches};
 ghost use Rattle.spec_setup.specs.Setups.{handed};
 ghost use Rattle.spec_core.specs.Blocks.{invocation_in};
 
-use arrayvec::ArrayVec;
 use epoch_plan::Epoch;
 use task_code::TaskCode;
-use task_frame::{Frame, Piece, opening};
-use task_hop::{Hop, Operation};
+use task_frame::{Piece, opening};
 use word_store::value_in_turn;
 
 /// The piece with which an iteration of an epoch begins.
@@ -22,38 +19,4 @@ pub(crate) fn first_piece(code: &TaskCode, epoch: &Epoch, number: u64) -> Piece
 {
     let value = value_in_turn(epoch.low, epoch.step, number - epoch.first);
     opening(code, epoch.body, value, &epoch.env)
-}
-
-/// The piece at an address.
-pub(crate) fn piece_at(code: &TaskCode, at: u32, frame: Frame) -> Piece
-    ensures { result ≡ piece_at code.now at frame }
-{
-    Piece {
-        hop: code.hop(at),
-        frame,
-    }
-}
-
-/// An equal piece.
-pub(crate) fn copy_piece(piece: &Piece) -> Piece
-    ensures { result ≡ piece.now }
-{
-    Piece {
-        hop: Hop {
-            operations: copy_operations(piece.hop.operations.as_slice()),
-            end: piece.hop.end,
-        },
-        frame: piece.frame,
-    }
-}
-
-fn copy_operations(operations: &[Operation]) -> ArrayVec<Operation, 32>
-    requires { length operations.now < 33 }
-    ensures { result.items ≡ operations.now }
-{
-    let mut copied = ArrayVec::new();
-    'copy: for operation in operations {
-        copied.push(*operation);
-    }
-    copied
 }

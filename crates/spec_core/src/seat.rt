@@ -6,7 +6,6 @@ ghost use Rattle.spec_core.specs.Hands.{hand_of};
 ghost use Rattle.spec_core.specs.Stages.{stage_of};
 
 use crate::hand::Held;
-use crate::pieces::copy_piece;
 use crate::stage::Stage;
 use nest_syntax::NoMemory;
 use range_sign::Signature;
@@ -94,7 +93,7 @@ impl<G: Signature> Seat<G> {
         ensures { (k : ℕ) (p : Stood) → self.now.hand ≡ machine.Running k p → result ≡ Some p }
     {
         match &self.hand {
-            Held::Task { piece, .. } => Some(copy_piece(piece)),
+            Held::Task { piece, .. } => Some(piece.copy()),
             _ => None,
         }
     }

@@ -16,14 +16,14 @@ ghost use Rattle.spec_core.specs.Engine.{row_at};
 ghost use Rattle.spec_core.specs.Tables.{state_of, setup_by, sizes_by, IsPlan, IsSound, GoesOn};
 
 use crate::memory::{set_word, word_at};
-use crate::pieces::{first_piece, piece_at};
+use crate::pieces::first_piece;
 use crate::plan::Plan;
 use crate::table::Table;
 use epoch_plan::Seen;
 use nest_syntax::{Cause, Line, Place, TaskName};
 use progress_board::{RollCause, Row};
 use range_sign::Signature;
-use task_frame::{Frame, Stop, Worked};
+use task_frame::{Frame, Stop, Worked, piece_at};
 use task_hop::Register;
 
 impl<G: Signature> Table<G> {

@@ -18,9 +18,9 @@ use Rattle.spec_machine.specs.Machine.{Setup, State, Move, DoScalar, DoDrain, Do
 use Rattle.spec_machine.specs.Table.{Enabled}
 use Rattle.spec_machine.specs.Theorems.{IsSetupFor, Leads}
 use Rattle.spec_machine.proofs.Bounds.{along_legal}
+use Rattle.nest_setup.proofs.Headers.{with_header, HasLeft, outside, LeadsOn, leads_on, left_behind}
 use Rattle.spec_setup.specs.Setups.{Invoked, what_in, invoking, by_invocations, invocation_at}
 use Rattle.spec_setup.proofs.Follows.{Fresh, entered, Good, Entered, Onto, Onward, onward, good_behind}
-use Rattle.spec_setup.proofs.Headers.{with_header, HasLeft, outside, LeadsOn, leads_on, left_behind}
 
 module _ (program : Program) (words : List ℤ) where
   pub record IsOpened (c : Cursor) (headers : ℕ) (n : ℕ) (rest : Cursor) : Type 0 where

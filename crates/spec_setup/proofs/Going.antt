@@ -20,12 +20,13 @@ use Rattle.task_frame.specs.declared.piece.Piece.{Piece}
 use Rattle.task_frame.specs.Pieces.{reached}
 use Rattle.task_frame.specs.System.{Fuelled}
 use Rattle.task_frame.specs.System as fuelled
+use Rattle.task_frame.specs.Stops.{IsInside, StopsInside}
 use Rattle.sched_cursor.specs.Cursor.{Cursor}
 use Rattle.sched_cursor.specs.Laws.{restarted}
 use Rattle.sched_cursor.proofs.Cursors.{cursors_stay}
 use Rattle.nest_setup.specs.Pieces.{in_places, stop_of}
-use Rattle.nest_setup.specs.Ahead.{IsInside, StopsInside}
 use Rattle.nest_setup.proofs.Costs.{stops_same, body_costs_bound}
+use Rattle.nest_setup.proofs.Headers.{few_headers}
 use Rattle.spec_machine.specs.Machine.{Setup, State, Seat, Hand, Idle, Empty, Running, Stopped, Move, DoScalar, DoDrain, DoOpen, DoClose, DoCommit, DoRestore, DoConclude, DoBegin, DoRead, DoWrite, DoGo, DoNext, DoFinish, DoFail, DoTrap, DoLetGo, DoStop, DoCheck, DoAbort, fresh_seat, seat_at, done_at, seat_after, state_after, pairs, epoch_at, from, to, piece_at, opening}
 use Rattle.spec_machine.specs.Table.{Enabled}
 use Rattle.spec_machine.specs.Theorems.{IsSetupFor, Leads}
@@ -42,7 +43,6 @@ use Rattle.spec_tasks.proofs.Carrying.{before}
 use Rattle.spec_setup.specs.Signs.{Signs}
 use Rattle.spec_setup.specs.Setups.{Invoked, handed, what_in, setup_of, fuelled_setup_of, IsPrepared}
 use Rattle.spec_setup.specs.Ahead.{HasFew, HandGoesOn, GoesOn, StatesGoOn}
-use Rattle.spec_setup.proofs.Headers.{few_headers}
 use Rattle.spec_setup.proofs.Right.{setups_right}
 use Rattle.spec_setup.proofs.Counts.{counted_along}
 

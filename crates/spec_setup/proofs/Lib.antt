@@ -3,7 +3,6 @@ pub mod Follows
 pub mod Right
 pub mod Keeps
 pub mod Blocks
-pub mod Headers
 pub mod Counts
 pub mod Going
 pub mod Scripts

@@ -12,7 +12,7 @@ use Rattle.nest_syntax.specs.declared.tree.Stmt.{Stmt}
 use Rattle.nest_syntax.specs.Among.{IsOne, Each}
 use Rattle.nest_syntax.specs.Words.{variable, most_turns}
 use Rattle.nest_syntax.specs.Arrays.{Array, arrays_of, sizes_of, word_number}
-use Rattle.nest_syntax.specs.Shape.{Body, body_of_loop, invoked_by, bodies_of, statements_of_each}
+use Rattle.nest_syntax.specs.Shape.{Body, body_of_loop, invoked_by, bodies_of}
 use Rattle.nest_syntax.specs.Value.{with_scalar}
 use Rattle.nest_syntax.specs.Turn.{Turn, turn_of}
 use Rattle.nest_syntax.specs.Turn as turn
@@ -45,7 +45,7 @@ use Rattle.nest_setup.specs.Pieces.{in_places, opening_piece}
 use Rattle.nest_setup.specs.Setups.{BoundTurns}
 use Rattle.nest_setup.proofs.Begun.{begins_with, found_there, found_inside}
 use Rattle.nest_setup.proofs.Realised.{realised}
-use Rattle.nest_setup.proofs.Right.{entries_of_bodies}
+use Rattle.nest_setup.proofs.Right.{entries_of_bodies, stmts_at_number}
 use Rattle.spec_machine.specs.Theorems.{words_of}
 use Rattle.spec_tasks.proofs.Notes.{law}
 use Rattle.spec_setup.specs.Signs.{Signs, kind_of}
@@ -53,12 +53,6 @@ use Rattle.spec_setup.specs.Setups.{Invoked, handed, is_turn_of, what_in, is_all
 use Rattle.spec_setup.specs.Laws.{SetupsAreRight}
 use Rattle.spec_setup.proofs.Signs.{keeps_notes}
 use Rattle.spec_setup.proofs.Follows.{follows}
-
--- the statements of a body by its number
-stmts_at_number : (bodies : List Body) (number : ℕ) (body : Body) → slice_get bodies number ≡ Some body → body_at (statements_of_each bodies) number ≡ body.stmts
-stmts_at_number [] number body there = absurd (let none : None ≡ Some body = there in cc)
-stmts_at_number (b ∷ bodies) zero body there = ap (λ (x : Body). x.stmts) (let same : b ≡ body = cc in same)
-stmts_at_number (b ∷ bodies) (suc number) body there = stmts_at_number bodies number body there
 
 -- a body of the program is one of them
 found_is_one : (bodies : List Body) (number : ℕ) (body : Body) → slice_get bodies number ≡ Some body → IsOne bodies body

@@ -7,9 +7,9 @@ use Rattle.settle_law.specs.Courses.{nest_of}
 use Rattle.task_code.specs.Code.{Code}
 use Rattle.task_frame.specs.declared.piece.Piece.{Piece}
 use Rattle.task_frame.specs.Pieces.{reached}
+use Rattle.task_frame.specs.Stops.{IsInside, StopsInside}
 use Rattle.sched_cursor.specs.Cursor.{Cursor}
 use Rattle.sched_cursor.specs.Laws.{restarted}
-use Rattle.nest_setup.specs.Ahead.{IsInside, StopsInside}
 use Rattle.spec_machine.specs.Facts.{Facts}
 use Rattle.spec_machine.specs.Machine.{Setup, State, Epoch, Hand, Idle, Empty, Running, Stopped, seat_at, done_at, from, to, step}
 use Rattle.spec_machine.specs.Theorems.{Leads}

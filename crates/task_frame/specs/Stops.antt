@@ -17,6 +17,10 @@ IsInside sizes (stop.Go next) = Unit {0}
 IsInside sizes stop.Finish = Unit {0}
 IsInside sizes (stop.Trap cause line) = Unit {0}
 
--- Each piece of a program's code does, at any address and from any frame.
+-- each piece of a code does, at any address and from any frame
+abbrev pub StopsInside : List ℕ → Code → Type 0
+StopsInside sizes code = (at : ℕ) (frame : Frame) → IsInside sizes (reached (piece_at code at frame)).stop
+
+-- So does each piece of a program's code.
 abbrev pub StopsAreInside : Type 0
-StopsAreInside = (program : Program) (code : Code) → IsCodeOf program code → (at : ℕ) (frame : Frame) → IsInside (sizes_of (arrays_of program.decls)) (reached (piece_at code at frame)).stop
+StopsAreInside = (program : Program) (code : Code) → IsCodeOf program code → StopsInside (sizes_of (arrays_of program.decls)) code

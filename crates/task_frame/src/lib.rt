@@ -12,6 +12,6 @@ mod worked;
 pub use laws::{
     bodies_are_realised, bodies_stop_at_most, stops_are_inside, turns_are_realised, turns_may_pause,
 };
-pub use piece::{Piece, opening};
+pub use piece::{Piece, opening, piece_at};
 pub use task_hop::{Frame, Stop};
 pub use worked::{Worked, work};

@@ -1,5 +1,5 @@
 ghost use Rattle.std.specs.Prelude.{◌≡◌, ◌<◌, length};
-ghost use Rattle.task_frame.specs.Pieces.{opening_of};
+ghost use Rattle.task_frame.specs.Pieces.{piece_at, opening_of};
 
 use arrayvec::ArrayVec;
 use task_code::TaskCode;
@@ -37,6 +37,16 @@ fn copy_of(hop: &Hop) -> Hop
     }
 }
 
+/// The piece at an address, with the frame that it begins on.
+pub fn piece_at(code: &TaskCode, at: u32, frame: Frame) -> Piece
+    ensures { result ≡ piece_at code.now at frame }
+{
+    Piece {
+        hop: code.hop(at),
+        frame,
+    }
+}
+
 /// The piece with which an iteration of a body begins: the hop at the body's entry, with the scheduler scalars `env`, the
 /// invocation's variable `value`, and 0 in every other register.
 pub fn opening(code: &TaskCode, body: u32, value: i64, env: &[i64; 32]) -> Piece
@@ -51,8 +61,5 @@ pub fn opening(code: &TaskCode, body: u32, value: i64, env: &[i64; 32]) -> Piece
     if let Some(slot) = code.slot(body) {
         frame.set(Register::Local(slot), value);
     }
-    Piece {
-        hop: code.hop(code.entry(body)),
-        frame,
-    }
+    piece_at(code, code.entry(body), frame)
 }

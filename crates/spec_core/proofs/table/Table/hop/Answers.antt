@@ -3,9 +3,9 @@ use Rattle.std.proofs.lemmas.Int.{to_z-of_z}
 use Rattle.nest_syntax.specs.Arrays.{word_number}
 use Rattle.task_hop.specs.declared.stop.Stop.TheVariants as stop
 use Rattle.task_frame.specs.Pieces.{reached, piece_at}
+use Rattle.task_frame.specs.Stops.{IsInside}
 use Rattle.spec_machine.specs.Machine.{DoWrite, worker_after}
 use Rattle.spec_core.specs.Signatures.{signs}
-use Rattle.spec_core.specs.Engine.{IsInside}
 use Rattle.spec_core.specs.Tables.{state_of, setup_by, sizes_by}
 use Rattle.spec_core.proofs.Standing.{stands, told_at}
 use Rattle.spec_core.proofs.table.Table.hop.Goals as goal
@@ -17,7 +17,7 @@ load-requires-clause-begun g c =
 pub load-requires-clause-inside : goal.load-requires-clause-inside
 load-requires-clause-inside g c =
     let st = stands (signs g.G.Signature.EXACT g.G.Signature.holds g.G.Signature.nothing g.G.Signature.with_note) _ c.args.plan.now c.args.self.now c.args.worker c.requires.plan c.requires.sound c.requires.goes c.requires.calm c.requires.own c.requires.stands.0 c.args.worked.now c.requires.stands.1 in
-    subst (IsInside (sizes_by c.args.plan.now)) (sym c.stop.ensures ∙ c.in-Load.is) st.inside
+    (subst (IsInside (sizes_by c.args.plan.now)) (sym c.stop.ensures ∙ c.in-Load.is) st.inside).1
 
 pub store-requires-clause-begun : goal.store-requires-clause-begun
 store-requires-clause-begun g c =
@@ -26,7 +26,7 @@ store-requires-clause-begun g c =
 pub store-requires-clause-inside : goal.store-requires-clause-inside
 store-requires-clause-inside g c =
     let st = stands (signs g.G.Signature.EXACT g.G.Signature.holds g.G.Signature.nothing g.G.Signature.with_note) _ c.args.plan.now c.args.self.now c.args.worker c.requires.plan c.requires.sound c.requires.goes c.requires.calm c.requires.own c.requires.stands.0 c.args.worked.now c.requires.stands.1 in
-    subst (IsInside (sizes_by c.args.plan.now)) (sym c.stop.ensures ∙ c.in-Store.is) st.inside
+    (subst (IsInside (sizes_by c.args.plan.now)) (sym c.stop.ensures ∙ c.in-Store.is) st.inside).1
 
 pub returns-in-Load-clause-state : goal.returns-in-Load-clause-state
 returns-in-Load-clause-state g c = λ k held.

@@ -1,5 +1,0 @@
-use Rattle.std.proofs.Common.{◌≡◌, take}
-use Rattle.domore_core.proofs.pieces.copy_operations.Given as goal
-
-abbrev pub invariant-copy : goal.invariant-copy
-invariant-copy l = l.copied.items ≡ take l.operation-index l.operations
