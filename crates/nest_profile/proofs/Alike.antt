@@ -1,5 +1,5 @@
 -- Lists that are alike place by place, and epochs that are alike: their tasks have the same iterations.
-use Rattle.std.proofs.Common.{◌≡◌, ℕ, zero, suc, ◌+◌, ◌-◌, ◌<◌, ◌==◌, Bool, true, false, if◌then◌else◌, Option, Some, None, IsSome, List, [], ◌∷◌, ◌++◌, length, slice_get, slice_index_or, refl, sym, ap, ◌∙◌, subst, arith}
+use Rattle.std.proofs.Common.{◌≡◌, ℕ, zero, suc, ◌+◌, ◌-◌, ◌<◌, ◌==◌, ℤ, Bool, true, false, if◌then◌else◌, Option, Some, None, IsSome, List, [], ◌∷◌, ◌++◌, length, slice_get, slice_index_or, refl, sym, ap, ◌∙◌, subst, arith}
 use Rattle.std.specs.Option.{option_map_or}
 use Rattle.nest_syntax.specs.declared.tree.Loop.{Loop}
 use Rattle.nest_syntax.specs.declared.tree.Program.{Program}
@@ -88,17 +88,15 @@ segments_alike room xs ys (Invokes x ∷ events) (Computes ∷ others) alike com
 segments_alike room xs ys (Invokes x ∷ events) (Drains ∷ others) alike come = absurd come.0
 segments_alike room xs ys (Invokes x ∷ events) (Invokes y ∷ others) alike come =
     subst (λ n. Both AlikeEpochs (segments_of room xs (Invokes x ∷ events)) (if n == room then ys ∷ segments_of room (y ∷ []) others else segments_of room (ys ++ y ∷ []) others)) (both_length AreAlike xs ys alike)
-    (by (length xs == room))
+    (by (length xs == room) (segments_alike room (x ∷ []) (y ∷ []) events others (come.0, tt) come.1) (segments_alike room (xs ++ x ∷ []) (ys ++ y ∷ []) events others (both_append AreAlike xs ys (x ∷ []) (y ∷ []) alike (come.0, tt)) come.1))
   where
-    full : Both AlikeEpochs (segments_of room (x ∷ []) events) (segments_of room (y ∷ []) others)
-    full = segments_alike room (x ∷ []) (y ∷ []) events others (come.0, tt) come.1
+    by : (t : Bool) → Both AlikeEpochs (segments_of room (x ∷ []) events) (segments_of room (y ∷ []) others) → Both AlikeEpochs (segments_of room (xs ++ x ∷ []) events) (segments_of room (ys ++ y ∷ []) others)
+        → Both AlikeEpochs (if t then xs ∷ segments_of room (x ∷ []) events else segments_of room (xs ++ x ∷ []) events) (if t then ys ∷ segments_of room (y ∷ []) others else segments_of room (ys ++ y ∷ []) others)
+    by true full more = (alike, full)
+    by false full more = more
 
-    more : Both AlikeEpochs (segments_of room (xs ++ x ∷ []) events) (segments_of room (ys ++ y ∷ []) others)
-    more = segments_alike room (xs ++ x ∷ []) (ys ++ y ∷ []) events others (both_append AreAlike xs ys (x ∷ []) (y ∷ []) alike (come.0, tt)) come.1
-
-    by : (t : Bool) → Both AlikeEpochs (if t then xs ∷ segments_of room (x ∷ []) events else segments_of room (xs ++ x ∷ []) events) (if t then ys ∷ segments_of room (y ∷ []) others else segments_of room (ys ++ y ∷ []) others)
-    by true = (alike, full)
-    by false = more
+pub cut_the_same : (room : ℕ) (events others : List (Coming Invoked)) → Both ComeAlike events others → Both AlikeEpochs (segments_of room [] events) (segments_of room [] others)
+cut_the_same room events others = segments_alike room [] [] events others tt
 
 -- Two setups of a program that differ in code and set distance at most: what is to blame in alike segments.
 module _ {G : Type 0} (signs : Signs G) (program : Program) (opening : List ℤ) (width room : ℕ) (code other : Code) (far near : ℕ) where
@@ -163,6 +161,3 @@ module _ {G : Type 0} (signs : Signs G) (program : Program) (opening : List ℤ)
         near = b.near;
         overlap = subst (λ x. IsSome (m.kind.overlap x (hull m' nest start' claims size got.0 p.late))) early (subst (λ y. IsSome (m.kind.overlap (hull m nest start claims size b.epochs p.early) y)) late b.overlap);
       }
-
-  pub cut_the_same : (events others : List (Coming Invoked)) → Both ComeAlike events others → Both AlikeEpochs (segments_of room [] events) (segments_of room [] others)
-  cut_the_same events others = segments_alike room [] [] events others tt

@@ -143,7 +143,7 @@ module _ {G : Type 0} (signs : Signs G) (program : Program) (opening : List ℤ)
       none : (c : Cursor) (i : Invocation) (n k : ℕ) → BeginsWith program (handed_in c i) (FollowsCourse program opening (behind_invocation c (at.Inside i))) n k (course.Drain purpose scalars rest) → ⊥
       none c i zero k begun = begun
       none c i (suc n) k begun = begun
-  same_both (course.Iterate body scalars rest) = (outside, inside (same_both rest).1)
+  same_both (course.Iterate body scalars rest) = (outside (same_both rest).1, inside (same_both rest).1)
     where
       inside : Inside rest → Inside (course.Iterate body scalars rest)
       inside same c d i j own own' there there' zero n' k k' begun begun' = absurd begun
@@ -154,14 +154,14 @@ module _ {G : Type 0} (signs : Signs G) (program : Program) (opening : List ℤ)
           let two : j.body ≡ body = ap (λ p. p.0) begun'.0 in
           record { counts = ap suc later.counts; body = λ some. one ∙ sym two; behind = later.behind }
 
-      outside : Outside (course.Iterate body scalars rest)
-      outside c d good good' f f' zero next = tt
-      outside c d good good' f f' (suc most) next =
+      outside : Inside rest → Outside (course.Iterate body scalars rest)
+      outside same c d good good' f f' zero next = tt
+      outside same c d good good' f f' (suc most) next =
           let e : Entered program opening c = subst (Onward program opening c) f.2 (onward program opening c good) in
           let e' : Entered program opening d = subst (Onward program opening d) f'.2 (onward program opening d good') in
           at_events c d most next (courses.Iterate f.0 f.1) (courses.Iterate f'.0 f'.1) f.2 f'.2
-          (at_entered c d most next (course.Iterate body scalars rest) (inside (same_both rest).1) good good' e e' f f')
-  same_both (course.Close scalars rest) = (outside, inside (same_both rest).0)
+          (at_entered c d most next (course.Iterate body scalars rest) (inside same) good good' e e' f f')
+  same_both (course.Close scalars rest) = (outside (same_both rest).0, inside (same_both rest).0)
     where
       inside : Outside rest → Inside (course.Close scalars rest)
       inside same c d i j own own' there there' zero zero k k' begun begun' = record {
@@ -172,16 +172,16 @@ module _ {G : Type 0} (signs : Signs G) (program : Program) (opening : List ℤ)
       inside same c d i j own own' there there' (suc n) n' k k' begun begun' = absurd begun
       inside same c d i j own own' there there' zero (suc n') k k' begun begun' = absurd begun'
 
-      outside : Outside (course.Close scalars rest)
-      outside c d good good' f f' zero next = tt
-      outside c d good good' f f' (suc most) next =
+      outside : Outside rest → Outside (course.Close scalars rest)
+      outside same c d good good' f f' zero next = tt
+      outside same c d good good' f f' (suc most) next =
           let e : Entered program opening c = subst (Onward program opening c) f.1 (onward program opening c good) in
           let e' : Entered program opening d = subst (Onward program opening d) f'.1 (onward program opening d good') in
           at_events c d most next (courses.Close f.0) (courses.Close f'.0) f.1 f'.1
-          (at_entered c d most next (course.Close scalars rest) (inside (same_both rest).0) good good' e e' f f')
+          (at_entered c d most next (course.Close scalars rest) (inside same) good good' e e' f f')
 
   pub same_segments : (c d : Cursor) → IsCursorOf program c → IsCursorOf program d → Both AlikeEpochs (segments m nest (restarted program c)) (segments m' nest (restarted program d))
-  same_segments c d own own' = cut_the_same (coming m nest (length (events nest)) (restarted program c) 0) (coming m' nest (length (events nest)) (restarted program d) 0)
+  same_segments c d own own' = cut_the_same room (coming m nest (length (events nest)) (restarted program c) 0) (coming m' nest (length (events nest)) (restarted program d) 0)
       ((same_both nest.course).0 (restarted program c) (restarted program d) (first c own) (first d own') (cursors_follow program opening c own) (cursors_follow program opening d own') (length (events nest)) 0)
     where
       first : (c : Cursor) → IsCursorOf program c → Sound (restarted program c)

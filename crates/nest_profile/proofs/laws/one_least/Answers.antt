@@ -2,4 +2,4 @@ use Rattle.nest_profile.proofs.Blaming.{one_least}
 use Rattle.nest_profile.proofs.laws.one_least.Goals as goal
 
 pub returns : goal.returns
-returns g c = one_least
+returns c = one_least
