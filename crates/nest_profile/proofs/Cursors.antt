@@ -84,8 +84,8 @@ module _ {G : Type 0} (signs : Signs G) (program : Program) (opening : List ℤ)
     at_invocation i j there there' same =
         subst (λ a. Both ComeAlike (coming_from m nest (coming m nest most) next (invoking c a)) (coming_from m' nest (coming m' nest most) next (invoking d d.at))) (sym there)
         (subst (λ a. Both ComeAlike (coming_from m nest (coming m nest most) next (invoking c (at.Inside i))) (coming_from m' nest (coming m' nest most) next (invoking d a))) (sym there') (
-            record { first = refl; count = same.counts; body = same.body },
-            subst (λ n. Both ComeAlike (coming m nest most (behind_invocation c (at.Inside i)) (next + i.turning.trips)) (coming m' nest most (behind_invocation d (at.Inside j)) (next + n))) same.counts (same.behind most (next + i.turning.trips)),
+          record { first = refl; count = same.counts; body = same.body },
+          subst (λ n. Both ComeAlike (coming m nest most (behind_invocation c (at.Inside i)) (next + i.turning.trips)) (coming m' nest most (behind_invocation d (at.Inside j)) (next + n))) same.counts (same.behind most (next + i.turning.trips)),
         ))
 
     -- a whole invocation, of which an event is at hand
@@ -136,9 +136,9 @@ module _ {G : Type 0} (signs : Signs G) (program : Program) (opening : List ℤ)
           let onto' = subst (Onward program opening d) f'.2 (onward program opening d good') in
           at_events c d most next (courses.Drain purpose f.0 f.1) (courses.Drain purpose f'.0 f'.1) f.2 f'.2
           (at_drain c d most next f.0 f'.0 f.1 f'.1 (λ words.
-              let s = f.3 words in
-              let s' = f'.3 words in
-              (s.0 ∙ sym s'.0, λ none. same words (f.1 words) (f'.1 words) (onto words (s.0 ∙ sym s'.0 ∙ none)).good (onto' words none).good (s.1 (sym s'.0 ∙ none)) (s'.1 (sym s'.0 ∙ none)))) (reached nest next))
+          let s = f.3 words in
+          let s' = f'.3 words in
+          (s.0 ∙ sym s'.0, λ none. same words (f.1 words) (f'.1 words) (onto words (s.0 ∙ sym s'.0 ∙ none)).good (onto' words none).good (s.1 (sym s'.0 ∙ none)) (s'.1 (sym s'.0 ∙ none)))) (reached nest next))
 
       none : (c : Cursor) (i : Invocation) (n k : ℕ) → BeginsWith program (handed_in c i) (FollowsCourse program opening (behind_invocation c (at.Inside i))) n k (course.Drain purpose scalars rest) → ⊥
       none c i zero k begun = begun
